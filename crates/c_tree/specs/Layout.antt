@@ -8,21 +8,17 @@ use Rattle.c_tree.specs.declared.lifted.LFunction.{LFunction}
 use Rattle.c_tree.specs.declared.place.Act.{Act}
 use Rattle.c_tree.specs.declared.place.Act.TheVariants.{Enter, Do, Test, EndLoop, Finish}
 use Rattle.c_tree.specs.declared.place.Place.{Place}
+use Rattle.c_tree.specs.declared.place.Exits.{Exits}
 use Rattle.c_tree.specs.declared.place.Follow.{Follow}
 use Rattle.c_tree.specs.declared.place.Follow.TheVariants.{One, Two, Leaves}
 use Rattle.c_tree.specs.declared.place.PlaceKind.{PlaceKind}
 use Rattle.c_tree.specs.declared.place.PlaceKind.TheVariants as kind
 
--- where `break` and `continue` go
-pub record Exits : Type 0 where
-  pub leave : ℕ
-  pub again : ℕ
-
 abbrev pub place : Act → Follow → Place
 place act follow = record { act = act; follow = follow }
 
 -- the number of places
-abbrev mutual
+unfoldable mutual
   pub count : LStmt → ℕ
   count (s.If' e i a j b) = 1 + counts a + counts b
   count (s.Loop' h c e i b j t) = counts c + 1 + counts b + counts t + 1
@@ -34,7 +30,7 @@ abbrev mutual
   counts end_of-LStmt = 0
   counts (more_of-LStmt s rest) = count s + counts rest
 
-abbrev mutual
+unfoldable mutual
   -- the place where the statement at n begins; a loop begins with its calls
   pub enter : Exits → ℕ → LStmt → ℕ
   enter x n s.Break = x.leave
@@ -48,7 +44,7 @@ abbrev mutual
   enters x n next (more_of-LStmt s rest) = enter x n s
 
 -- the places of the statement at n, which `next` follows
-abbrev mutual
+unfoldable mutual
   pub layout : Exits → ℕ → ℕ → LStmt → List Place
   layout x n next (s.If' e i a j b) =
       let other = n + 1 + counts a in

@@ -1,0 +1,11 @@
+-- A run that a plan made so far, with nothing but Steps.
+use Rattle.std.specs.Prelude.{◌≡◌, false}
+use Rattle.c_tree.specs.declared.run.Picker.{Picker}
+use Rattle.c_tree.specs.declared.run.Settings.{Settings}
+use Rattle.c_tree.specs.Plan.{IsQuiet, way}
+use Rattle.world_core.specs.History.{History, core}
+
+pub record OnWay (k : Settings) (start : Picker) (h : History) (g : Picker) : Type 0 where
+  pub same : h.settings ≡ k
+  pub quiet : IsQuiet k (core h)
+  pub way : way k false start (core h).steps ≡ record { core = core h; picker = g; events = h.events }

@@ -1,0 +1,5 @@
+//! Runs a World to its end by a plan.
+#![tactic(auto)]
+
+pub mod pick;
+pub mod round;

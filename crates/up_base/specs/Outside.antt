@@ -1,0 +1,94 @@
+-- What can be told of files and of a sink, and what their calls do.
+use Rattle.std.specs.Prelude.{◌≡◌, ◌⊎◌, ℕ, ◌+◌, ◌-◌, ◌^◌, ◌<◌, ◌≤◌, min, List, ◌++◌, length, take, Option, Some, None, Result, IfOk, OnOk, OnErr, IsErrOf, Vec, if◌then◌else◌}
+use Rattle.std.specs.Str.{bytes_eq}
+use Rattle.std.specs.declared.alloc.Global.{Global}
+use Rattle.up_base.specs.declared.outside.ReadEnd.{ReadEnd}
+use Rattle.up_base.specs.declared.outside.ReadEnd.TheVariants as read
+use Rattle.up_base.specs.declared.outside.PutEnd.{PutEnd}
+use Rattle.up_base.specs.declared.outside.PutEnd.TheVariants as put
+
+-- A count rose, or stands at its type's end.
+abbrev pub Rose : ℕ → ℕ → Type 0
+Rose before now = min (before + 1) (2 ^ 64 - 1) ≤ now
+
+-- names, and what they hold
+abbrev pub Contents : Type 0
+Contents = List ℕ → Option (List ℕ)
+
+-- what can be told of files: their contents, where these are told, and the counts of faults
+pub record Shelf : Type 0 where
+  pub held : Option Contents
+  pub read_faults : ℕ
+  pub write_faults : ℕ
+
+-- what can be told of a sink: the bytes taken so far, where these are told, and the count of faults
+pub record Sunk : Type 0 where
+  pub taken : Option (List ℕ)
+  pub faults : ℕ
+
+-- Where contents are told, the name holds these bytes.
+abbrev pub Holds : Option Contents → List ℕ → List ℕ → Type 0
+Holds None name bytes = Unit {0}
+Holds (Some m) name bytes = m name ≡ Some bytes
+
+-- Where contents are told, the name holds more than that.
+abbrev pub HoldsMore : Option Contents → List ℕ → ℕ → Type 0
+HoldsMore None name limit = Unit {0}
+HoldsMore (Some m) name limit = (bytes : List ℕ) × (m name ≡ Some bytes) × (limit < length bytes)
+
+-- Contents are told, and the name isn't there.
+abbrev pub Lacks : Option Contents → List ℕ → Type 0
+Lacks None name = ⊥
+Lacks (Some m) name = m name ≡ None
+
+-- A missing name isn't there, and leaves the count of faults; where contents aren't told, it is counted as a fault.
+abbrev pub IsMissing : Option Contents → List ℕ → ℕ → ℕ → Type 0
+IsMissing None name before now = Rose before now
+IsMissing (Some m) name before now = (m name ≡ None) × (now ≡ before)
+
+pub record Reads (before now : Shelf) (name : List ℕ) (limit : ℕ) (result : Result (Vec ℕ Global) ReadEnd) : Type 0 where
+  pub held : now.held ≡ before.held
+  pub writes : now.write_faults ≡ before.write_faults
+  pub later : before.read_faults ≤ now.read_faults
+  pub whole : IfOk result (λ v. (length v.items ≤ limit) × Holds before.held name v.items)
+  pub long : IsErrOf result read.TooLong → HoldsMore before.held name limit
+  pub missing : IsErrOf result read.Missing → IsMissing before.held name before.read_faults now.read_faults
+  pub failed : IsErrOf result read.Failed → Rose before.read_faults now.read_faults
+
+-- the contents after a name was given these bytes
+abbrev pub given : Contents → List ℕ → List ℕ → Contents
+given m name bytes = λ q. if bytes_eq name q then Some bytes else m q
+
+abbrev pub written : Option Contents → List ℕ → List ℕ → Option Contents
+written None name bytes = None
+written (Some m) name bytes = Some (given m name bytes)
+
+-- the first bytes of a text, or all of it
+abbrev pub IsPart : List ℕ → List ℕ → Type 0
+IsPart part bytes = (n : ℕ) × (n ≤ length bytes) × (part ≡ take n bytes)
+
+pub record Writes (before now : Shelf) (name bytes : List ℕ) (result : Result (Unit {0}) PutEnd) : Type 0 where
+  pub reads : now.read_faults ≡ before.read_faults
+  pub later : before.write_faults ≤ now.write_faults
+  pub whole : OnOk result (now.held ≡ written before.held name bytes)
+  -- After an error the name holds what it held, or a part of the bytes.
+  pub part : OnErr result ((now.held ≡ before.held) ⊎ ((p : List ℕ) × IsPart p bytes × (now.held ≡ written before.held name p)))
+  pub failed : IsErrOf result put.Failed → Rose before.write_faults now.write_faults
+
+-- what a sink has taken after more bytes
+abbrev pub grown : Option (List ℕ) → List ℕ → Option (List ℕ)
+grown None bytes = None
+grown (Some old) bytes = Some (old ++ bytes)
+
+pub record Puts (before now : Sunk) (bytes : List ℕ) (result : Result ℕ PutEnd) : Type 0 where
+  pub later : before.faults ≤ now.faults
+  pub within : IfOk result (λ k. (k ≤ length bytes) × (0 < length bytes → 0 < k))
+  pub took : IfOk result (λ k. now.taken ≡ grown before.taken (take k bytes))
+  pub nothing : OnErr result (now.taken ≡ before.taken)
+  pub failed : IsErrOf result put.Failed → Rose before.faults now.faults
+
+pub record PutsAll (before now : Sunk) (bytes : List ℕ) (result : Result (Unit {0}) PutEnd) : Type 0 where
+  pub later : before.faults ≤ now.faults
+  pub whole : OnOk result (now.taken ≡ grown before.taken bytes)
+  pub part : OnErr result ((p : List ℕ) × IsPart p bytes × (now.taken ≡ grown before.taken p))
+  pub failed : IsErrOf result put.Failed → Rose before.faults now.faults

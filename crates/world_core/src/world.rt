@@ -1,0 +1,150 @@
+//! The world: a run whose state is what its events lead to.
+
+ghost use Rattle.std.specs.Prelude.{◌≡◌, ◌≤◌, ◌<◌, ◌+◌, IsTrue, IfOk, OnOk, OnErr, map, length};
+ghost use Rattle.c_tree.specs.Layout as layout;
+ghost use Rattle.c_tree.specs.Run.{stepped};
+ghost use Rattle.c_tree.specs.Step.{step};
+ghost use Rattle.c_tree.specs.declared.event.EventKind.TheVariants as e;
+ghost use Rattle.c_places.specs.Limit.{KeepsLimit};
+ghost use Rattle.world_core.specs.History.{begun, core, over, may_turn, with_event, IsRun};
+
+use crate::now::{Now, may_step, over, present, step_now};
+use c_meaning::start::start;
+use c_places::places;
+use c_tree::{End, Event, EventKind, Lifted, Phase, Places, Settings, Text};
+use std::alloc::{AllocError, Global};
+use std::marker::Model;
+
+/// A run. Contracts see what it was given and its events.
+#[derive(Drop)]
+pub struct World {
+    settings: Settings,
+    places: Places,
+    events: Vec<Event>,
+    here: Now,
+}
+
+impl Model for World {
+    ghost use Rattle.world_core.specs.History.{History};
+    ghost use Rattle.std.specs.Coded.{codes};
+    ghost use Rattle.c_tree.specs.contracts.run.Settings as given;
+
+    ghost Value = { History };
+
+    ghost coded = { Prim.hlevel (codes, given.the_row.coded) };
+
+    ghost use Rattle.world_core.specs.Sound.{history_of, IsSound};
+
+    ghost view = { history_of };
+
+    ghost invariant = { IsSound };
+}
+
+impl World {
+    /// A run that has no event yet.
+    pub fn start(
+        alloc: Global,
+        program: Lifted,
+        input: Text,
+        limit: u64,
+    ) -> Result<World, AllocError>
+        requires placed { KeepsLimit program }
+        requires small { limit ≤ 10000000 }
+        ensures { IfOk result (λ w. w ≡ begun program input limit) }
+    {
+        let places = places(alloc, &program)?;
+        let copied = input.clone()?;
+        let state = start(alloc, &program, copied)?;
+        let here = Now {
+            state,
+            phase: Phase::Before,
+            parked: Vec::new(alloc),
+            steps: 0,
+            ended: None,
+        };
+        let settings = Settings {
+            program,
+            armed: None,
+            input,
+            limit,
+        };
+        let events = Vec::new(alloc);
+        Ok(World {
+            settings,
+            places,
+            events,
+            here,
+        })
+    }
+
+    /// How many threads were made.
+    pub fn threads(&self) -> u32
+        ensures value { result ≡ length (core self.now).state.threads }
+        ensures few { result ≤ 1000 }
+    {
+        self.here.state.threads.len() as u32
+    }
+
+    pub fn steps(&self) -> u64
+        ensures { result ≡ (core self.now).steps }
+    {
+        self.here.steps
+    }
+
+    pub fn output(&self) -> &[u8]
+        ensures { result.now ≡ (core self.now).state.output }
+    {
+        self.here.state.output.as_bytes()
+    }
+
+    pub fn events(&self) -> &[Event]
+        ensures value { result.now ≡ self.now.events }
+        ensures legal { IsRun self.now }
+    {
+        self.events.as_slice()
+    }
+
+    pub fn over(&self) -> Option<End>
+        ensures { result ≡ over self.now }
+    {
+        over(
+            &self.settings,
+            present(&self.settings, self.here.phase),
+            &self.places,
+            &self.here,
+        )
+    }
+
+    pub fn may_turn(&self, t: u32) -> bool
+        ensures { result ≡ may_turn self.now t }
+    {
+        self.over().is_none()
+            && may_step(
+                &self.settings,
+                present(&self.settings, self.here.phase),
+                &self.places,
+                &self.here,
+                t,
+            )
+    }
+
+    /// Makes a Step of a thread, as a worker. Where memory is short all stays.
+    pub fn turn(&mut self, worker: u32, t: u32) -> Result<(), AllocError>
+        requires { IsTrue (may_turn self.old t) }
+        ensures ok { OnOk result (self.new ≡ with_event self.old worker (e.Step t)) }
+        ensures core { OnOk result (core self.new ≡ stepped (core self.old) t (step (core self.old).program t (core self.old).state)) }
+        ensures more { OnOk result ((core self.new).steps ≡ (core self.old).steps + 1) }
+        ensures within { OnOk result ((core self.old).steps < self.old.settings.limit) }
+        ensures err { OnErr result (self.new ≡ self.old) }
+    {
+        self.events.reserve(1)?;
+        let alloc = *self.events.allocator();
+        let program = present(&self.settings, self.here.phase);
+        step_now(alloc, program, &self.places, &mut self.here, t)?;
+        self.events.push_reserved(Event {
+            worker,
+            kind: EventKind::Step(t),
+        });
+        Ok(())
+    }
+}
