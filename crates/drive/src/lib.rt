@@ -3,3 +3,5 @@
 
 pub mod pick;
 pub mod round;
+
+pub use round::drive_round;

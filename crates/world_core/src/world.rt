@@ -91,8 +91,10 @@ impl World {
         self.here.steps
     }
 
+    /// What the program has printed.
     pub fn output(&self) -> &[u8]
-        ensures { result.now ≡ (core self.now).state.output }
+        ensures value { result.now ≡ (core self.now).state.output }
+        ensures legal { IsRun self.now }
     {
         self.here.state.output.as_bytes()
     }
