@@ -52,7 +52,7 @@ pub laid-more : (x : Exits) (n next : ℕ) (block : List LStmt) (i : ℕ) (t : L
 laid-more x n next block i t at after follow o o1 o2 h is size f so_far more =
     let front : drop i block ≡ t ∷ drop (i + 1) block = rw (add-one i) (drop-cons block i t h ∙ ap (λ z. z ∷ drop (suc i) block) (sym is)) in
     let whole : layout_of x at next (drop i block) ≡ layout x at follow t ++ layout_of x after next (drop (i + 1) block) =
-        ap (layout_of x at next) front ∙ (layout_of-cons x at next t (drop (i + 1) block) ∙ rw (sym size) (rw (sym f) refl)) in
+    ap (layout_of x at next) front ∙ (layout_of-cons x at next t (drop (i + 1) block) ∙ rw (sym size) (rw (sym f) refl)) in
     ap (λ z. z ++ layout_of x after next (drop (i + 1) block)) more ∙ (append_assoc o1 _ _ ∙ (ap (λ z. o1 ++ z) (sym whole) ∙ so_far))
 
 pub laid-all : (x : Exits) (n next at : ℕ) (block : List LStmt) (i : ℕ) (o o1 : List Place) → length block ≤ i

@@ -117,11 +117,30 @@ fn lay(
 {
     match s {
         LStmt::If(test, yes, no) => {
-            lay_if(alloc, exits, n, next, test, yes.as_slice(), no.as_slice(), out)
+            lay_if(
+                alloc,
+                exits,
+                n,
+                next,
+                test,
+                yes.as_slice(),
+                no.as_slice(),
+                out,
+            )
         }
         LStmt::Loop(calls, test, body, step) => {
             let (calls, body) = (calls.as_slice(), body.as_slice());
-            lay_loop(alloc, exits, n, next, calls, test, body, step.as_slice(), out)
+            lay_loop(
+                alloc,
+                exits,
+                n,
+                next,
+                calls,
+                test,
+                body,
+                step.as_slice(),
+                out,
+            )
         }
         LStmt::Break => Ok(()),
         LStmt::Continue => Ok(()),

@@ -7,10 +7,8 @@
 
 mod enter;
 mod lay;
-
 mod size;
 
 pub use c_tree::{Follow, PlaceKind, Places};
-
 pub use lay::places;
 pub use size::{MAX_PLACES, keeps_limit};

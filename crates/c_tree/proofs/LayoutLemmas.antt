@@ -13,7 +13,7 @@ use Rattle.c_tree.specs.Layout.{place, count, enter, layout, size_of, start_of, 
 
 pub size_of-nil : size_of [] ≡ 0
 unfolding literals
-size_of-nil  = refl
+size_of-nil = refl
 
 pub size_of-cons : (s : LStmt) (rest : List LStmt) → size_of (s ∷ rest) ≡ count s + size_of rest
 unfolding literals
@@ -73,11 +73,11 @@ count-Loop c e b t = refl
 
 pub count-Break : count s.Break ≡ 0
 unfolding literals
-count-Break  = refl
+count-Break = refl
 
 pub count-Continue : count s.Continue ≡ 0
 unfolding literals
-count-Continue  = refl
+count-Continue = refl
 
 pub start_of-nil : (x : Exits) (n next : ℕ) → start_of x n next [] ≡ next
 unfolding literals
@@ -220,13 +220,13 @@ within leave again = record { leave = leave; again = again }
 pub layout-Loop : (x : Exits) (n next : ℕ) (c : List LStmt) (e : LExpr) (b t : List LStmt)
     → layout x n next (s.Loop c e b t)
     ≡ (let test = n + size_of c in
-       let step = test + 1 + size_of b in
-       let end = step + size_of t in
-       let again = start_of x step end t in
-       layout_of x n test c
-       ++ (place (Test e) (Two (start_of (within next again) (test + 1) again b) next)
-       ∷ (layout_of (within next again) (test + 1) again b
-       ++ (layout_of x step end t ++ place EndLoop (One (start_of x n test c)) ∷ []))))
+    let step = test + 1 + size_of b in
+    let end = step + size_of t in
+    let again = start_of x step end t in
+    layout_of x n test c
+    ++ (place (Test e) (Two (start_of (within next again) (test + 1) again b) next)
+    ∷ (layout_of (within next again) (test + 1) again b
+    ++ (layout_of x step end t ++ place EndLoop (One (start_of x n test c)) ∷ []))))
 unfolding literals
 layout-Loop x n next c e b t = refl
 

@@ -2,10 +2,10 @@
 use Rattle.std.specs.Prelude.{◌≡◌, ◌⊎◌, ℕ, ◌+◌, ◌-◌, ◌^◌, ◌<◌, ◌≤◌, min, List, ◌++◌, length, take, Option, Some, None, Result, IfOk, OnOk, OnErr, IsErrOf, Vec, if◌then◌else◌}
 use Rattle.std.specs.Str.{bytes_eq}
 use Rattle.std.specs.declared.alloc.Global.{Global}
-use Rattle.up_base.specs.declared.outside.ReadEnd.{ReadEnd}
-use Rattle.up_base.specs.declared.outside.ReadEnd.TheVariants as read
-use Rattle.up_base.specs.declared.outside.PutEnd.{PutEnd}
-use Rattle.up_base.specs.declared.outside.PutEnd.TheVariants as put
+use Rattle.up_base.specs.declared.refusal.ReadEnd.{ReadEnd}
+use Rattle.up_base.specs.declared.refusal.ReadEnd.TheVariants as read
+use Rattle.up_base.specs.declared.refusal.PutEnd.{PutEnd}
+use Rattle.up_base.specs.declared.refusal.PutEnd.TheVariants as put
 
 -- A count rose, or stands at its type's end.
 abbrev pub Rose : ℕ → ℕ → Type 0

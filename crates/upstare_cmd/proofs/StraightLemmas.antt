@@ -27,13 +27,13 @@ pub value-Bin : (names : List (List ℕ)) (op : BinOp) (a b : Expr) → value na
 unfolding value literals
 value-Bin names op a b = refl
 
-pub value-Null : (names : List (List ℕ))  → value names e.Null ≡ None
+pub value-Null : (names : List (List ℕ)) → value names e.Null ≡ None
 unfolding value literals
-value-Null names  = refl
+value-Null names = refl
 
-pub value-Eof : (names : List (List ℕ))  → value names e.Eof ≡ None
+pub value-Eof : (names : List (List ℕ)) → value names e.Eof ≡ None
 unfolding value literals
-value-Eof names  = refl
+value-Eof names = refl
 
 pub value-Slot : (names : List (List ℕ)) (name : List ℕ) (k : ℕ) → value names (e.Slot name k) ≡ None
 unfolding value literals
@@ -59,9 +59,9 @@ pub value-Malloc : (names : List (List ℕ)) (name : At (List ℕ)) → value na
 unfolding value literals
 value-Malloc names name = refl
 
-pub value-Getchar : (names : List (List ℕ))  → value names e.Getchar ≡ None
+pub value-Getchar : (names : List (List ℕ)) → value names e.Getchar ≡ None
 unfolding value literals
-value-Getchar names  = refl
+value-Getchar names = refl
 
 pub value-Create : (names : List (List ℕ)) (a : Expr) (name : At (List ℕ)) (b : Expr) → value names (e.Create a name b) ≡ None
 unfolding value literals

@@ -30,11 +30,7 @@ fn slot_of(names: &[Name], name: &Name) -> Option<u32>
     None
 }
 
-fn unary(
-    alloc: Global,
-    op: UnOp,
-    operand: Option<LExpr>,
-) -> Result<Option<LExpr>, AllocError>
+fn unary(alloc: Global, op: UnOp, operand: Option<LExpr>) -> Result<Option<LExpr>, AllocError>
     ensures { IfOk result (λ o. o ≡ option_map (λ x. LExpr.Un op x) operand) }
 {
     match operand {
@@ -72,11 +68,7 @@ fn named(names: &[Name], name: &Name) -> Option<LExpr>
 
 /// The value of an expression of ints.
 #[tactic(auto, using(crate::proofs::StraightLemmas::value_rules))]
-fn value(
-    alloc: Global,
-    names: &[Name],
-    x: &ExprKind,
-) -> Result<Option<LExpr>, AllocError>
+fn value(alloc: Global, names: &[Name], x: &ExprKind) -> Result<Option<LExpr>, AllocError>
     requires { length names.now ≤ 64 }
     ensures { IfOk result (λ o. o ≡ spec.value names.now x.now) }
 {
@@ -109,11 +101,7 @@ fn value(
 }
 
 /// The values of several expressions.
-fn values(
-    alloc: Global,
-    names: &[Name],
-    xs: &[Expr],
-) -> Result<Option<Row<LExpr>>, AllocError>
+fn values(alloc: Global, names: &[Name], xs: &[Expr]) -> Result<Option<Row<LExpr>>, AllocError>
     requires { length names.now ≤ 64 }
     ensures { IfOk result (λ o. o ≡ spec.values names.now xs.now) }
 {
@@ -204,11 +192,7 @@ fn returned(v: Option<LExpr>) -> Option<LStmt>
 }
 
 /// A statement.
-fn stmt(
-    alloc: Global,
-    names: &[Name],
-    s: &StmtKind,
-) -> Result<Option<LStmt>, AllocError>
+fn stmt(alloc: Global, names: &[Name], s: &StmtKind) -> Result<Option<LStmt>, AllocError>
     requires { length names.now ≤ 64 }
     ensures { IfOk result (λ o. o ≡ spec.stmt names.now s.now) }
 {
@@ -241,11 +225,7 @@ fn stmt(
 }
 
 /// Several statements.
-fn stmts(
-    alloc: Global,
-    names: &[Name],
-    xs: &[Stmt],
-) -> Result<Option<Row<LStmt>>, AllocError>
+fn stmts(alloc: Global, names: &[Name], xs: &[Stmt]) -> Result<Option<Row<LStmt>>, AllocError>
     requires { length names.now ≤ 64 }
     ensures { IfOk result (λ o. o ≡ spec.stmts names.now xs.now) }
 {
@@ -325,11 +305,7 @@ fn slots(alloc: Global, names: &[Name]) -> Result<Row<Slot>, AllocError>
     Ok(Row::from_vec(slots))
 }
 
-fn main_of(
-    alloc: Global,
-    names: &[Name],
-    body: Row<LStmt>,
-) -> Result<Lifted, AllocError>
+fn main_of(alloc: Global, names: &[Name], body: Row<LStmt>) -> Result<Lifted, AllocError>
     ensures { IfOk result (λ p. p ≡ spec.main_of names.now body) }
 {
     let function = LFunction {
@@ -350,11 +326,7 @@ fn main_of(
     })
 }
 
-fn body_of(
-    alloc: Global,
-    names: &[Name],
-    rest: &[Stmt],
-) -> Result<Option<Lifted>, AllocError>
+fn body_of(alloc: Global, names: &[Name], rest: &[Stmt]) -> Result<Option<Lifted>, AllocError>
     ensures { IfOk result (λ o. o ≡ spec.body_of (names.now, rest.now)) }
 {
     if names.len() > MAX_LOCALS {

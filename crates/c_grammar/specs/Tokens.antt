@@ -1,0 +1,38 @@
+-- What a token is to the grammar.
+use Rattle.std.specs.Prelude.{ℕ, ℤ, pos, List, [], ◌∷◌, if◌then◌else◌, unwrap_or, slice_get}
+use Rattle.std.specs.Str.{bytes_eq}
+use Rattle.c_tree.specs.declared.token.TokenKind.{TokenKind}
+use Rattle.c_tree.specs.declared.token.TokenKind.TheVariants as token
+use Rattle.c_grammar.specs.declared.kind.Kind.{Kind}
+use Rattle.c_grammar.specs.declared.kind.Kind.TheVariants as kind
+use Rattle.c_grammar.specs.Words.{Entry, words, signs}
+
+-- the kind of the word in the list, and a name where it is not there
+abbrev pub kind_in : List Entry → List ℕ → Kind
+kind_in [] word = kind.Name
+kind_in (entry ∷ entries) word = if bytes_eq entry.text word then entry.kind else kind_in entries word
+
+unfoldable pub word_kind : List ℕ → Kind
+word_kind word = kind_in words word
+
+abbrev pub sign_kind : ℕ → Kind
+sign_kind place = unwrap_or (slice_get signs place) kind.Other
+
+abbrev pub kind_of : TokenKind → Kind
+kind_of (token.Word word) = word_kind word
+kind_of (token.Number number) = kind.Number
+kind_of (token.Char code) = kind.Char
+kind_of (token.Str text) = kind.String
+kind_of (token.Punct place) = sign_kind place
+
+-- the token's word or text, where it has one
+abbrev pub text_of : TokenKind → List ℕ
+text_of (token.Word word) = word
+text_of (token.Str text) = text
+text_of _ = []
+
+-- the token's number or code, where it has one
+abbrev pub number_of : TokenKind → ℤ
+number_of (token.Number number) = number
+number_of (token.Char code) = code
+number_of _ = pos 0

@@ -1,0 +1,173 @@
+//! The stack of values: the newest is last. A value of another sort than the wanted one never comes, as the rules' sorts
+//! show; a fixed value then stands for it.
+
+ghost use Rattle.std.specs.Prelude.{◌≡◌, ◌∷◌, reverse, OnOk, IfOk};
+ghost use Rattle.c_grammar.specs.Values as spec;
+
+use crate::value::{Operand, Value};
+use c_tree::{Boxed, Expr, ExprKind, Field, Program, Row, Stmt, StmtKind, Token, TokenKind, Ty};
+use std::alloc::{AllocError, Global};
+
+pub fn push_value(values: &mut Vec<Value>, value: Value) -> Result<(), AllocError>
+    ensures { OnOk result (reverse values.new.items ≡ value ∷ reverse values.old.items) }
+{
+    values.push(value)?;
+    Ok(())
+}
+
+/// Lets a value go that was not wanted.
+fn discard(_value: Option<Value>) {}
+
+/// Drops the newest value.
+pub fn drop_value(values: &mut Vec<Value>)
+    ensures { reverse values.new.items ≡ spec.older (reverse values.old.items) }
+{
+    discard(values.pop());
+}
+
+pub fn pop_word(values: &mut Vec<Value>) -> Token
+    ensures value { result ≡ spec.word_in (reverse values.old.items) }
+    ensures rest { reverse values.new.items ≡ spec.older (reverse values.old.items) }
+{
+    match values.pop() {
+        Some(Value::Word(token)) => token,
+        other => {
+            discard(other);
+            Token {
+                kind: TokenKind::Punct(0),
+                at: 0,
+                len: 0,
+            }
+        }
+    }
+}
+
+pub fn pop_ty(values: &mut Vec<Value>) -> Ty
+    ensures value { result ≡ spec.ty_in (reverse values.old.items) }
+    ensures rest { reverse values.new.items ≡ spec.older (reverse values.old.items) }
+{
+    match values.pop() {
+        Some(Value::Ty(ty)) => ty,
+        other => {
+            discard(other);
+            Ty::Int
+        }
+    }
+}
+
+pub fn pop_operand(values: &mut Vec<Value>) -> Operand
+    ensures value { result ≡ spec.operand_in (reverse values.old.items) }
+    ensures rest { reverse values.new.items ≡ spec.older (reverse values.old.items) }
+{
+    match values.pop() {
+        Some(Value::Operand(operand)) => operand,
+        other => {
+            discard(other);
+            Operand {
+                expr: Expr {
+                    at: 0,
+                    kind: ExprKind::Null,
+                },
+                first: 0,
+            }
+        }
+    }
+}
+
+pub fn pop_exprs(alloc: Global, values: &mut Vec<Value>) -> Row<Expr>
+    ensures value { result ≡ spec.exprs_in (reverse values.old.items) }
+    ensures rest { reverse values.new.items ≡ spec.older (reverse values.old.items) }
+{
+    match values.pop() {
+        Some(Value::Exprs(exprs)) => exprs,
+        other => {
+            discard(other);
+            Row::from_vec(Vec::new(alloc))
+        }
+    }
+}
+
+pub fn pop_maybe_expr(values: &mut Vec<Value>) -> Option<Expr>
+    ensures value { result ≡ spec.maybe_expr_in (reverse values.old.items) }
+    ensures rest { reverse values.new.items ≡ spec.older (reverse values.old.items) }
+{
+    match values.pop() {
+        Some(Value::MaybeExpr(expr)) => expr,
+        other => {
+            discard(other);
+            None
+        }
+    }
+}
+
+pub fn pop_stmt(alloc: Global, values: &mut Vec<Value>) -> Result<Boxed<Stmt>, AllocError>
+    ensures value { IfOk result (λ stmt. stmt ≡ spec.stmt_in (reverse values.old.items)) }
+    ensures rest { OnOk result (reverse values.new.items ≡ spec.older (reverse values.old.items)) }
+{
+    match values.pop() {
+        Some(Value::Stmt(stmt)) => Ok(stmt),
+        other => {
+            discard(other);
+            Boxed::new(
+                alloc,
+                Stmt {
+                    at: 0,
+                    kind: StmtKind::Empty,
+                },
+            )
+        }
+    }
+}
+
+pub fn pop_stmts(alloc: Global, values: &mut Vec<Value>) -> Row<Stmt>
+    ensures value { result ≡ spec.stmts_in (reverse values.old.items) }
+    ensures rest { reverse values.new.items ≡ spec.older (reverse values.old.items) }
+{
+    match values.pop() {
+        Some(Value::Stmts(stmts)) => stmts,
+        other => {
+            discard(other);
+            Row::from_vec(Vec::new(alloc))
+        }
+    }
+}
+
+pub fn pop_fields(alloc: Global, values: &mut Vec<Value>) -> Row<Field>
+    ensures value { result ≡ spec.fields_in (reverse values.old.items) }
+    ensures rest { reverse values.new.items ≡ spec.older (reverse values.old.items) }
+{
+    match values.pop() {
+        Some(Value::Fields(fields)) => fields,
+        other => {
+            discard(other);
+            Row::from_vec(Vec::new(alloc))
+        }
+    }
+}
+
+/// A program without anything, of a file of no bytes.
+pub fn no_program(alloc: Global) -> Program
+    ensures { result ≡ spec.no_program }
+{
+    Program {
+        structs: Row::from_vec(Vec::new(alloc)),
+        globals: Row::from_vec(Vec::new(alloc)),
+        mutexes: Row::from_vec(Vec::new(alloc)),
+        defines: Row::from_vec(Vec::new(alloc)),
+        functions: Row::from_vec(Vec::new(alloc)),
+        len: 0,
+    }
+}
+
+pub fn pop_program(alloc: Global, values: &mut Vec<Value>) -> Program
+    ensures value { result ≡ spec.program_in (reverse values.old.items) }
+    ensures rest { reverse values.new.items ≡ spec.older (reverse values.old.items) }
+{
+    match values.pop() {
+        Some(Value::Program(program)) => program,
+        other => {
+            discard(other);
+            no_program(alloc)
+        }
+    }
+}

@@ -1,0 +1,63 @@
+//! Which operator a sign is.
+
+ghost use Rattle.std.specs.Prelude.{◌≡◌};
+ghost use Rattle.c_grammar.specs.Effects as spec;
+
+use crate::kind::Kind;
+use c_tree::{BinOp, UnOp};
+
+/// The operator before an operand.
+pub fn unary_of(kind: Kind) -> UnOp
+    ensures { result ≡ spec.unary_of kind }
+{
+    match kind {
+        Kind::Bang => UnOp::Not,
+        Kind::Tilde => UnOp::Flip,
+        _ => UnOp::Neg,
+    }
+}
+
+/// The operator between two operands.
+pub fn binary_of(kind: Kind) -> BinOp
+    ensures { result ≡ spec.binary_of kind }
+{
+    match kind {
+        Kind::Slash => BinOp::Div,
+        Kind::Percent => BinOp::Rem,
+        Kind::Plus => BinOp::Add,
+        Kind::Minus => BinOp::Sub,
+        Kind::ShiftLeft => BinOp::Shl,
+        Kind::ShiftRight => BinOp::Shr,
+        Kind::Less => BinOp::Lt,
+        Kind::LessEqual => BinOp::Le,
+        Kind::Greater => BinOp::Gt,
+        Kind::GreaterEqual => BinOp::Ge,
+        Kind::EqualEqual => BinOp::Eq,
+        Kind::NotEqual => BinOp::Ne,
+        Kind::And => BinOp::BitAnd,
+        Kind::Xor => BinOp::BitXor,
+        Kind::Or => BinOp::BitOr,
+        Kind::AndAnd => BinOp::And,
+        Kind::OrOr => BinOp::Or,
+        _ => BinOp::Mul,
+    }
+}
+
+/// The operator of an assignment, where it has one.
+pub fn assigned_of(kind: Kind) -> Option<BinOp>
+    ensures { result ≡ spec.assigned_of kind }
+{
+    match kind {
+        Kind::PlusEqual => Some(BinOp::Add),
+        Kind::MinusEqual => Some(BinOp::Sub),
+        Kind::StarEqual => Some(BinOp::Mul),
+        Kind::SlashEqual => Some(BinOp::Div),
+        Kind::PercentEqual => Some(BinOp::Rem),
+        Kind::AndEqual => Some(BinOp::BitAnd),
+        Kind::XorEqual => Some(BinOp::BitXor),
+        Kind::OrEqual => Some(BinOp::BitOr),
+        Kind::ShiftLeftEqual => Some(BinOp::Shl),
+        Kind::ShiftRightEqual => Some(BinOp::Shr),
+        _ => None,
+    }
+}

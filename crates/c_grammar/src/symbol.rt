@@ -1,0 +1,65 @@
+//! The symbols that are to come in a text.
+
+ghost use Rattle.std.specs.Prelude.{◌≡◌};
+ghost use Rattle.c_grammar.specs.Marks as spec;
+
+use crate::action::Action;
+use crate::kind::Kind;
+use crate::rule::Rule;
+
+/// What a token does that is taken.
+#[derive(Clone, Copy, PartialEq, Eq)]
+pub enum Mark {
+    /// It is let go.
+    Skip,
+    /// It is kept as a value.
+    Keep,
+    /// What follows it stands one deeper.
+    Open,
+    OpenKeep,
+    /// It is an operator, of which an expression has only so many.
+    Count,
+    CountKeep,
+}
+
+impl Mark {
+    pub fn keeps(self) -> bool
+        ensures { result ≡ spec.keeps self }
+    {
+        match self {
+            Mark::Keep | Mark::OpenKeep | Mark::CountKeep => true,
+            Mark::Skip | Mark::Open | Mark::Count => false,
+        }
+    }
+
+    pub fn opens(self) -> bool
+        ensures { result ≡ spec.opens self }
+    {
+        match self {
+            Mark::Open | Mark::OpenKeep => true,
+            Mark::Skip | Mark::Keep | Mark::Count | Mark::CountKeep => false,
+        }
+    }
+
+    pub fn counts(self) -> bool
+        ensures { result ≡ spec.counts self }
+    {
+        match self {
+            Mark::Count | Mark::CountKeep => true,
+            Mark::Skip | Mark::Keep | Mark::Open | Mark::OpenKeep => false,
+        }
+    }
+}
+
+/// A symbol to come.
+#[derive(Clone, Copy, PartialEq, Eq)]
+pub enum Symbol {
+    /// A token of this kind.
+    Take(Kind, Mark),
+    /// No token; the next one is not of this kind.
+    Unless(Kind),
+    /// No token; the values change.
+    Act(Action),
+    /// One of the rule's alternatives.
+    Expand(Rule),
+}

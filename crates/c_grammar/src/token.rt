@@ -1,0 +1,97 @@
+//! What the grammar sees of a token.
+
+ghost use Rattle.std.specs.Prelude.{◌≡◌, IfOk, map};
+ghost use Rattle.c_grammar.specs.Tokens as spec;
+
+use crate::kind::Kind;
+use crate::words::{signs, words};
+use c_tree::{Name, Text, Token, TokenKind};
+use std::alloc::{AllocError, Global};
+
+/// The kind of the word in the list, or of a name.
+fn kind_in(words: &[(&[u8], Kind)], word: &[u8]) -> Kind
+    ensures { result ≡ spec.kind_in (map (λ w. record { text = w.0.now; kind = w.1 }) words.now) word.now }
+{
+    for entry in words {
+        if entry.0 == word {
+            return entry.1;
+        }
+    }
+    Kind::Name
+}
+
+#[tactic(auto, unfolding(crate::specs::Tokens::word_kind))]
+fn word_kind(word: &Name) -> Kind
+    ensures { result ≡ spec.word_kind word.now }
+{
+    kind_in(words(), word.as_bytes())
+}
+
+fn sign_kind(place: u8) -> Kind
+    ensures { result ≡ spec.sign_kind place }
+{
+    match signs().get(place as usize) {
+        Some(kind) => *kind,
+        None => Kind::Other,
+    }
+}
+
+/// What the token is to the grammar.
+pub fn kind_of(token: &TokenKind) -> Kind
+    ensures { result ≡ spec.kind_of token.now }
+{
+    match token {
+        TokenKind::Word(word) => word_kind(word),
+        TokenKind::Number(_) => Kind::Number,
+        TokenKind::Char(_) => Kind::Char,
+        TokenKind::Str(_) => Kind::String,
+        TokenKind::Punct(place) => sign_kind(*place),
+    }
+}
+
+fn copy_kind(token: &TokenKind) -> Result<TokenKind, AllocError>
+    ensures { IfOk result (λ t. t ≡ token.now) }
+{
+    Ok(match token {
+        TokenKind::Word(word) => TokenKind::Word(word.clone()?),
+        TokenKind::Number(number) => TokenKind::Number(*number),
+        TokenKind::Char(code) => TokenKind::Char(*code),
+        TokenKind::Str(text) => TokenKind::Str(text.clone()?),
+        TokenKind::Punct(place) => TokenKind::Punct(*place),
+    })
+}
+
+/// An equal token.
+pub fn copy_token(token: &Token) -> Result<Token, AllocError>
+    ensures { IfOk result (λ t. t ≡ token.now) }
+{
+    Ok(Token {
+        kind: copy_kind(&token.kind)?,
+        at: token.at,
+        len: token.len,
+    })
+}
+
+/// The token's word or text, where it has one.
+pub fn text_of(alloc: Global, token: TokenKind) -> Text
+    ensures { result ≡ spec.text_of token }
+{
+    match token {
+        TokenKind::Word(word) => word,
+        TokenKind::Str(text) => text,
+        TokenKind::Number(_) | TokenKind::Char(_) | TokenKind::Punct(_) => Text::from_vec(Vec::new(
+            alloc,
+        )),
+    }
+}
+
+/// The token's number or code, where it has one.
+pub fn number_of(token: &TokenKind) -> i32
+    ensures { result ≡ spec.number_of token.now }
+{
+    match token {
+        TokenKind::Number(number) => *number,
+        TokenKind::Char(code) => *code,
+        TokenKind::Word(_) | TokenKind::Str(_) | TokenKind::Punct(_) => 0,
+    }
+}

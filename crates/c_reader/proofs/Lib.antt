@@ -1,0 +1,10 @@
+mod KindNumbers
+mod Choice
+mod Tables
+mod Turns
+mod Factoring
+mod Sorts
+mod SortRuns
+mod SortTables
+mod Trees
+mod Outcomes

@@ -1,0 +1,67 @@
+//! Which alternative the next token picks.
+
+ghost use Rattle.std.specs.Prelude.{◌≡◌};
+ghost use Rattle.std.specs.Option.{option_copied};
+ghost use Rattle.c_reader.specs.Choices.{choices, first_kinds};
+ghost use Rattle.c_reader.specs.Picks.{is_kind, begins, leads, is_empty, picks, predict};
+
+use crate::table::{alternatives_of, first_kinds_of};
+use c_grammar::{Kind, Rule, Symbol};
+
+pub fn is_next(kind: Kind, ahead: Option<Kind>) -> bool
+    ensures { result ≡ is_kind kind ahead }
+{
+    match ahead {
+        Some(next) => kind as u8 == next as u8,
+        None => false,
+    }
+}
+
+fn can_begin(rule: Rule, ahead: Option<Kind>) -> bool
+    ensures { result ≡ begins first_kinds rule ahead }
+{
+    first_kinds_of(rule)
+        .iter()
+        .any(|kind| is_next(*kind, ahead))
+}
+
+fn can_lead(symbols: &[Symbol], ahead: Option<Kind>) -> bool
+    ensures { result ≡ leads first_kinds symbols.now ahead }
+{
+    for symbol in symbols {
+        match *symbol {
+            Symbol::Take(kind, _) => return is_next(kind, ahead),
+            Symbol::Unless(_) => return false,
+            Symbol::Act(_) => {}
+            Symbol::Expand(rule) => return can_begin(rule, ahead),
+        }
+    }
+    false
+}
+
+fn takes_none(symbols: &[Symbol]) -> bool
+    ensures { result ≡ is_empty symbols.now }
+{
+    symbols.iter().all(|symbol| match *symbol {
+        Symbol::Take(_, _) | Symbol::Expand(_) => false,
+        Symbol::Unless(_) | Symbol::Act(_) => true,
+    })
+}
+
+fn is_picked(rule: Rule, ahead: Option<Kind>, symbols: &[Symbol]) -> bool
+    ensures { result ≡ picks first_kinds rule ahead symbols.now }
+{
+    can_lead(symbols, ahead) || (takes_none(symbols) && !can_begin(rule, ahead))
+}
+
+/// The alternative of the rule that the next token picks.
+pub fn pick(rule: Rule, ahead: Option<Kind>) -> Option<&'static [Symbol]>
+    ensures { option_copied result ≡ predict choices first_kinds rule ahead }
+{
+    for symbols in alternatives_of(rule) {
+        if is_picked(rule, ahead, symbols) {
+            return Some(symbols);
+        }
+    }
+    None
+}

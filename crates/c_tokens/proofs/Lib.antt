@@ -1,0 +1,15 @@
+pub mod Shift
+pub mod Closing
+pub mod Quoting
+pub mod Numbers
+pub mod Sizes
+pub mod Listing
+pub mod Examples
+pub mod Lines
+pub mod Scanning
+pub mod SourceExamples
+pub mod ReadsOnce
+pub mod ScansOnce
+pub mod TextOrder
+pub mod TokenOrder
+pub mod Longest

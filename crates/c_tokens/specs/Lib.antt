@@ -1,0 +1,15 @@
+pub mod Byte
+pub mod Literal
+pub mod Quoted
+pub mod Operator
+pub mod Comment
+pub mod Front
+pub mod Word
+pub mod Tokens
+pub mod Directive
+pub mod Piece
+pub mod Source
+pub mod Compute
+pub mod Reads
+pub mod Scans
+pub mod Order

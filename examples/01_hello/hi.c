@@ -1,0 +1,4 @@
+int main(void) {
+    printf("hi\n");
+    return 3;
+}
