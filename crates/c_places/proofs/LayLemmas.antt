@@ -1,12 +1,12 @@
 -- The places of parts, put one after another.
-use Rattle.std.proofs.Common.{◌≡◌, ℕ, suc, ◌+◌, ◌-◌, ◌<◌, ◌≤◌, List, [], ◌∷◌, ◌++◌, length, get_or, take, drop, refl, sym, ap, ◌∙◌, append_assoc, drop-cons, add-one, arith}
+use Rattle.std.proofs.Common.{◌≡◌, ℕ, suc, ◌+◌, ◌-◌, ◌<◌, ◌≤◌, List, [], ◌∷◌, ◌++◌, length, get_or, take, drop, refl, sym, ap, ◌∙◌, append_assoc, drop-cons, add-one}
 use Rattle.std.proofs.Math.Seq.{take-length}
 use Rattle.std.proofs.lemmas.List.{drop_all, append-nil, length-drop}
 use Rattle.c_tree.specs.declared.lifted.LExpr.{LExpr}
 use Rattle.c_tree.specs.declared.lifted.LStmt.{LStmt}
 use Rattle.c_tree.specs.declared.lifted.LStmt.TheVariants as s
-use Rattle.c_tree.specs.declared.place.Act.TheVariants.{Enter, Test, EndLoop, Finish}
-use Rattle.c_tree.specs.declared.place.Follow.TheVariants.{One, Two, Leaves}
+use Rattle.c_tree.specs.declared.place.Act.TheVariants.{Test, EndLoop}
+use Rattle.c_tree.specs.declared.place.Follow.TheVariants.{One, Two}
 use Rattle.c_tree.specs.declared.place.Exits.{Exits}
 use Rattle.c_tree.specs.declared.place.Place.{Place}
 use Rattle.c_tree.specs.Layout.{place, count, size_of, start_of, layout, layout_of}

@@ -1,5 +1,5 @@
 -- How many places a function may have.
-use Rattle.std.specs.Prelude.{ℕ, ◌+◌, ◌≤◌, All}
+use Rattle.std.specs.Prelude.{◌+◌, ◌≤◌, All}
 use Rattle.c_tree.specs.declared.lifted.LFunction.{LFunction}
 use Rattle.c_tree.specs.declared.lifted.Lifted.{Lifted}
 use Rattle.c_tree.specs.Layout.{size_of}

@@ -1,6 +1,7 @@
 //! From the bytes of a C source to tokens, or the first fault among them.
 //!
-//! It knows which words are left out and how directives are written, and nothing else of the grammar.
+//! It knows the left-out words and how directives are written, and nothing else of the grammar.
+//! The layer above rests on `scan`: the lexemes before the first fault, and that fault.
 #![tactic(auto)]
 
 mod class;
@@ -26,6 +27,7 @@ pub use lexeme::{Lexeme, LexemeKind, Scan};
 pub use refused::ReadRefused;
 pub use source::scan;
 pub use token_list::tokens;
+pub use word::{is_left_out, is_name};
 
 #[cfg(test)]
 mod tests;

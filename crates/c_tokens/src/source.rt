@@ -16,7 +16,8 @@ fn push_piece(
     piece: Piece,
 ) -> Result<Option<At<ReadCause>>, AllocError>
     requires { pieces.size_of piece < 2 ^ 32 }
-    ensures { IfOk result (λ why. text.before (text.scan lexemes.old.items None) (text.added at piece) ≡ text.scan lexemes.new.items why) }
+    ensures { IfOk result (λ why. text.before (text.scan lexemes.old.items None) (text.added at piece)
+        ≡ text.scan lexemes.new.items why) }
 {
     match piece {
         Piece::Gap(_, _) => Ok(None),
@@ -66,8 +67,9 @@ pub fn scan(alloc: Global, bytes: &[u8]) -> Result<Scan, AllocError>
     requires { length bytes.now ≤ 1048576 }
     ensures scan { IfOk result (λ s. s ≡ text.scan_of bytes.now) }
 
-    // The lexemes stand in text order before the fault, and it stands within the text or at its end.
-    ensures order { IfOk result (λ s. StandBetween 0 (lexeme_places s.lexemes) (end_of s.fault (length bytes.now))) }
+    // They stand in text order before the fault, and it stands within the text or at its end.
+    ensures order { IfOk result (λ s. let end = end_of s.fault (length bytes.now)
+        in StandBetween 0 (lexeme_places s.lexemes) end) }
     ensures within { IfOk result (λ s. end_of s.fault (length bytes.now) ≤ length bytes.now) }
 {
     read_source(alloc, bytes)

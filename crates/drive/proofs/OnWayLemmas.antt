@@ -1,15 +1,14 @@
 -- The way of a plan, from its start and by one more Step.
-use Rattle.std.proofs.Common.{◌≡◌, ℕ, zero, suc, ◌+◌, Bool, true, false, ◌&&◌, nat_le, List, [], ◌∷◌, ◌++◌, Option, Some, None, refl, ap, sym, ◌∙◌, subst, arith, add-one}
+use Rattle.std.proofs.Common.{◌≡◌, ℕ, ◌+◌, Bool, true, false, ◌&&◌, nat_le, [], Option, Some, None, refl, ap, sym, ◌∙◌, subst, arith, add-one}
 use Rattle.std.specs.Option.{option_or}
 use Rattle.std.proofs.lemmas.Bool.Decides.{nat_tests}
-use Rattle.c_tree.specs.declared.event.Event.{Event}
 use Rattle.c_tree.specs.declared.event.EventKind.TheVariants as e
 use Rattle.c_tree.specs.declared.run.Picker.{Picker}
 use Rattle.c_tree.specs.declared.run.Picker.TheVariants.{Round}
 use Rattle.c_tree.specs.declared.run.Settings.{Settings}
 use Rattle.c_tree.specs.Run as r
 use Rattle.c_tree.specs.Step.{step}
-use Rattle.c_tree.specs.Plan.{IsQuiet, Way, way, advance, picked, picker_after, by_none, lowest_from, above}
+use Rattle.c_tree.specs.Plan.{IsQuiet, Way, way, advance, picked, picker_after, lowest_from, above}
 use Rattle.c_tree.proofs.PlanLemmas.{advance-Step, quiet_finds, quiet_stays}
 use Rattle.world_core.specs.History.{History, core, over, may_turn, with_event}
 use Rattle.world_core.proofs.WorldLemmas.{core_empty, may_parts}

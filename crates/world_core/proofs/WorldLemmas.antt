@@ -1,16 +1,12 @@
 -- What the state of a World says of its history, and what one more event keeps.
-use Rattle.std.proofs.Common.{◌≡◌, ℕ, ◌+◌, ◌^◌, ◌≤◌, ◌<◌, Bool, true, false, not, ◌&&◌, List, [], ◌∷◌, ◌++◌, map, length, Option, Some, None, Vec, refl, ap, sym, subst, ◌∙◌, arith}
+use Rattle.std.proofs.Common.{◌≡◌, ℕ, ◌+◌, ◌^◌, ◌≤◌, ◌<◌, Bool, true, false, not, ◌&&◌, List, [], ◌∷◌, ◌++◌, map, length, Option, Some, None, refl, ap, sym, subst, ◌∙◌, arith}
 use Rattle.std.specs.Prelude.{is_some, unwrap_or, ◌==◌}
 use Rattle.std.proofs.lemmas.Bool.Decides.{nat_tests}
 use Rattle.c_tree.specs.declared.run.End.TheVariants as end
 use Rattle.c_tree.specs.declared.event.Event.{Event}
-use Rattle.c_tree.specs.declared.event.EventKind.{EventKind}
 use Rattle.c_tree.specs.declared.event.EventKind.TheVariants as e
 use Rattle.c_tree.specs.declared.lifted.Lifted.{Lifted}
 use Rattle.c_tree.specs.declared.run.End.{End}
-use Rattle.c_tree.specs.declared.run.Armed.{Armed}
-use Rattle.c_tree.specs.declared.run.Phase.{Phase}
-use Rattle.c_tree.specs.declared.run.Phase.TheVariants as phase
 use Rattle.c_tree.specs.declared.run.Settings.{Settings}
 use Rattle.c_tree.specs.Able.{able}
 use Rattle.c_tree.specs.Layout.{places}
@@ -20,7 +16,7 @@ use Rattle.c_tree.proofs.RunLemmas.{run-more, next-Step, may_step-able}
 use Rattle.c_tree.proofs.StepLemmas.{stepped-steps}
 use Rattle.c_tree.proofs.ThreadLemmas.{Few, step_few}
 use Rattle.world_core.specs.CoreAt.{core_at, present}
-use Rattle.world_core.specs.History.{History, core, over, may_turn, with_event, IsRun}
+use Rattle.world_core.specs.History.{History, core, over, may_turn, IsRun}
 use Rattle.world_core.specs.Sound.{IsSound, history_of, now_of, program_of}
 use Rattle.world_core.specs.declared.now.Now.{Now}
 use Rattle.world_core.specs.declared.world.World.TheInside.{Inside}

@@ -9,9 +9,8 @@ ghost use Rattle.c_places.specs.Limit.{KeepsLimit};
 ghost use Rattle.world_core.specs.History.{begun, core, over, may_turn, with_event, IsRun};
 
 use crate::now::{Now, may_step, over, present, step_now};
-use c_meaning::start::start;
 use c_places::places;
-use c_tree::{End, Event, EventKind, Lifted, Phase, Places, Settings, Text};
+use c_tree::{End, Event, EventKind, Lifted, Phase, Places, Settings, State, Text};
 use std::alloc::{AllocError, Global};
 use std::marker::Model;
 
@@ -53,8 +52,7 @@ impl World {
         ensures { IfOk result (λ w. w ≡ begun program input limit) }
     {
         let places = places(alloc, &program)?;
-        let copied = input.clone()?;
-        let state = start(alloc, &program, copied)?;
+        let state = State::start(alloc, &program, &input)?;
         let here = Now {
             state,
             phase: Phase::Before,

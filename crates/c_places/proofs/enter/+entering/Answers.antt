@@ -1,4 +1,3 @@
-use Rattle.std.proofs.Common.{rules, arith}
 use Rattle.c_places.proofs.EnterLemmas.{begins-nowhere}
 use Rattle.c_places.proofs.enter.+entering.Goals as goal
 

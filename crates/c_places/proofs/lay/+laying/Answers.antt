@@ -1,8 +1,8 @@
-use Rattle.std.proofs.Common.{rules, ◌≡◌, ◌≤◌, ◌<◌, ◌+◌, ◌-◌, ◌++◌, [], length, drop, take, sym, ap, ◌∙◌, arith}
+use Rattle.std.proofs.Common.{◌++◌, sym, ap, ◌∙◌, arith}
 use Rattle.std.proofs.lemmas.List.{append-nil}
 use Rattle.c_tree.specs.Layout as spec
 use Rattle.c_tree.proofs.LayoutLemmas.{layout-Break, layout-Continue}
-use Rattle.c_places.proofs.SizeLemmas.{size_of-drop, size_of-end}
+use Rattle.c_places.proofs.SizeLemmas.{size_of-drop}
 use Rattle.c_places.proofs.LayLemmas.{laid-If, laid-Loop, laid-more, laid-all, rest-of}
 use Rattle.c_places.proofs.lay.+laying.Goals as goal
 

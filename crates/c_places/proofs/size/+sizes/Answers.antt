@@ -1,4 +1,4 @@
-use Rattle.std.proofs.Common.{◌≡◌, ◌+◌, ◌≤◌, ◌<◌, length, arith}
+use Rattle.std.proofs.Common.{arith}
 use Rattle.c_places.proofs.SizeLemmas.{size_of-drop, size_of-end}
 use Rattle.c_places.proofs.size.+sizes.Goals as goal
 
