@@ -1,5 +1,5 @@
 -- What a source is accepted as, or why it is refused.
-use Rattle.std.proofs.Common.{◌≡◌, ℕ, ◌<◌, List, [], ◌∷◌, length, refl, sym, ap, subst, ◌∙◌}
+use Rattle.std.proofs.Common.{◌≡◌, ℕ, List, [], ◌∷◌, length, sym, ap, subst, ◌∙◌}
 use Rattle.std.specs.Prelude.{Option, Some, None, Result, Ok, Err, IfOk, MatchOption}
 use Rattle.std.specs.declared.alloc.AllocError.{AllocError}
 use Rattle.c_tree.specs.declared.cause.ReadCause.{ReadCause}
@@ -8,7 +8,6 @@ use Rattle.c_tree.specs.declared.program.At.{At}
 use Rattle.c_tree.specs.declared.program.Program.{Program}
 use Rattle.c_tree.specs.declared.token.Token.{Token}
 use Rattle.c_tokens.specs.Tokens.{Reading, tokens_of}
-use Rattle.c_grammar.specs.declared.value.Value.{Value}
 use Rattle.c_grammar.specs.declared.value.Value.TheVariants as value
 use Rattle.c_grammar.specs.Reading.{IsReadingOf, IsFirstFault, at_token, at_end}
 use Rattle.c_places.specs.Limit.{KeepsLimit}

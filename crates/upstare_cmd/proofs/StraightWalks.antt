@@ -1,12 +1,8 @@
 -- Lists that are walked through.
 use Rattle.std.proofs.Common.{◌≡◌, ℕ, suc, ◌+◌, ◌<◌, ◌≤◌, Bool, true, false, List, [], ◌∷◌, ◌++◌, length, get_or, drop, Option, Some, None, refl, sym, ap, ◌∙◌, append_assoc, drop-cons, add-one, arith}
 use Rattle.std.specs.Prelude.{if◌then◌else◌}
-use Rattle.std.specs.Str.{bytes_eq}
 use Rattle.std.specs.Option.{option_map}
 use Rattle.std.proofs.lemmas.List.{append-nil, drop_all}
-use Rattle.c_tree.specs.declared.lifted.LExpr.{LExpr}
-use Rattle.c_tree.specs.declared.lifted.LStmt.{LStmt}
-use Rattle.c_tree.specs.declared.program.Expr.{Expr}
 use Rattle.c_tree.specs.declared.program.Stmt.{Stmt}
 use Rattle.c_tree.specs.Typing.{directives, directive}
 use Rattle.upstare_cmd.specs.Straight as s

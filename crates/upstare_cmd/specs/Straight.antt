@@ -1,10 +1,9 @@
 -- The programs that run so far, and what they are lifted to: `main` alone, whose locals are ints that are declared first,
 -- and whose statements are assignments, prints and returns.
-use Rattle.std.specs.Prelude.{ℕ, zero, suc, ◌+◌, Bool, true, false, not, ◌&&◌, ◌||◌, ◌==◌, nat_le, if◌then◌else◌, List, [], ◌∷◌, ◌++◌, map, length, codes, Option, Some, None}
+use Rattle.std.specs.Prelude.{ℕ, ◌+◌, Bool, ◌&&◌, ◌==◌, nat_le, if◌then◌else◌, List, [], ◌∷◌, ◌++◌, map, length, codes, Option, Some, None}
 use Rattle.std.specs.Str.{bytes_eq}
 use Rattle.std.specs.List.{list_any}
 use Rattle.std.specs.Option.{option_map, option_and_then}
-use Rattle.c_tree.specs.declared.ty.Ty.{Ty}
 use Rattle.c_tree.specs.declared.ty.Ty.TheVariants as ty
 use Rattle.c_tree.specs.declared.lifted.LExpr.{LExpr}
 use Rattle.c_tree.specs.declared.lifted.LExpr.TheVariants as l
@@ -12,11 +11,9 @@ use Rattle.c_tree.specs.declared.lifted.LStmt.{LStmt}
 use Rattle.c_tree.specs.declared.lifted.LStmt.TheVariants as ls
 use Rattle.c_tree.specs.declared.lifted.Dest.TheVariants as dest
 use Rattle.c_tree.specs.declared.lifted.Slot.{Slot}
-use Rattle.c_tree.specs.declared.lifted.LFunction.{LFunction}
 use Rattle.c_tree.specs.declared.lifted.Lifted.{Lifted}
 use Rattle.c_tree.specs.declared.program.Program.{Program}
 use Rattle.c_tree.specs.declared.program.Function.{Function}
-use Rattle.c_tree.specs.declared.program.Field.{Field}
 use Rattle.c_tree.specs.declared.program.Expr.{Expr}
 use Rattle.c_tree.specs.declared.program.ExprKind.{ExprKind, more_of-Expr as only}
 use Rattle.c_tree.specs.declared.program.ExprKind.TheVariants as e
