@@ -1,4 +1,4 @@
--- The reader's grammar and the grammar on paper let the same tokens go on.
+-- The grammar that the machine reads by and the one that the definitions state let the same tokens go on.
 use Rattle.std.proofs.Common.{List}
 use Rattle.c_grammar.specs.declared.symbol.Symbol.{Symbol}
 use Rattle.c_grammar.specs.Effects.{State}
