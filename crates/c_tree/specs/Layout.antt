@@ -10,8 +10,6 @@ use Rattle.c_tree.specs.declared.place.Place.{Place}
 use Rattle.c_tree.specs.declared.place.Exits.{Exits}
 use Rattle.c_tree.specs.declared.place.Follow.{Follow}
 use Rattle.c_tree.specs.declared.place.Follow.TheVariants.{One, Two, Leaves}
-use Rattle.c_tree.specs.declared.place.PlaceKind.{PlaceKind}
-use Rattle.c_tree.specs.declared.place.PlaceKind.TheVariants as kind
 
 abbrev pub place : Act → Follow → Place
 place act follow = record { act = act; follow = follow }
@@ -81,6 +79,7 @@ places f =
     let outside : Exits = record { leave = last; again = last } in
     place Enter (One (start_of outside 1 last f.body)) ∷ (layout_of outside 1 last f.body ++ place Finish Leaves ∷ [])
 
+-- a place, and past the last one the implied return
 abbrev pub nowhere : Option Place → Place
 nowhere None = place Finish Leaves
 nowhere (Some p) = p
@@ -88,14 +87,3 @@ nowhere (Some p) = p
 -- the place of a number
 abbrev pub place_at : LFunction → ℕ → Place
 place_at f n = nowhere (slice_get (places f) n)
-
-abbrev pub follow_of : LFunction → ℕ → Follow
-follow_of f n = (place_at f n).follow
-
-abbrev pub kind_of : Act → PlaceKind
-kind_of Enter = kind.Entry
-kind_of EndLoop = kind.LoopEnd
-kind_of (Do (s.Lock m)) = kind.Block
-kind_of (Do (s.Join e)) = kind.Block
-kind_of (Do (s.Call d f args)) = kind.Call
-kind_of _ = kind.Plain
