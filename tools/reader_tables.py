@@ -48,12 +48,13 @@ class Grammar:
         self.kinds = self.classes + [kind for kind, _ in self.words + self.signs]
         self.spelled = {spelling: kind for kind, spelling in self.words + self.signs}
         self.spelled.update({kind.upper(): kind for kind in self.classes})
-        self.rules = self.read_rules(sections["rules"])
+        self.kept = dict(line.split() for line in sections["kept"])
+        self.rules = self.read_rules(sections["rules"] + level_rules(sections["levels"]))
         self.reader = self.read_rules(sections["reader"])
         self.starts = {}
         for line in sections["start"]:
             name, body = line.split("=", 1)
-            self.starts[name.strip()] = self.symbols(body)
+            self.starts[snake(name.strip())] = self.symbols(body)
         self.order = list(self.rules) + [r for r in self.reader if r not in self.rules]
         self.paper = {r: self.rules.get(r) or self.reader[r] for r in self.order}
         self.choices = {r: self.reader.get(r) or self.rules[r] for r in self.order}
@@ -67,7 +68,7 @@ class Grammar:
                 joined.append(line)
         rules = {}
         for line in joined:
-            name, finds, leaves, body = re.fullmatch(r"(\w+) \[(.*?)-> (.*?)\] = ?(.*)", line).groups()
+            name, finds, leaves, body = re.fullmatch(r"(\w+) \[(.*?)->(.*?)\] = ?(.*)", line).groups()
             rule = Rule(name, finds.split(), leaves.split(), line)
             rule.alternatives = [self.symbols(part) for part in split_bars(body)]
             rules[name] = rule
@@ -89,6 +90,27 @@ class Grammar:
             else:
                 found.append(("Expand", body))
         return found
+
+
+def snake(name):
+    return re.sub(r"(?<!^)(?=[A-Z])", "_", name).lower()
+
+
+def level_rules(lines):
+    """The rules of the operators between operands, over each of the operands."""
+    operands = [line.split() for line in lines if '"' not in line]
+    levels = [line.split(maxsplit=1) for line in lines if '"' in line]
+    rules = []
+    for operand, top in operands:
+        prefix, below = top.removesuffix("Expr"), operand
+        for i, (name, _) in enumerate(levels):
+            rule = top if i == len(levels) - 1 else prefix + name
+            rules.append(f"{rule} [-> Operand] = {below} {rule}Tail")
+            rules.append(f"{rule}Tail [Operand -> Operand] = {name}Op {below} @Bin {rule}Tail |")
+            below = rule
+    for name, signs in levels:
+        rules.append(f"{name}Op [-> Word] = " + " | ".join(f"{sign}$#" for sign in signs.split()))
+    return rules
 
 
 def split_bars(body):
@@ -196,7 +218,7 @@ def check_sorts(grammar):
                 stack = list(rule.finds)
                 for s in alternative:
                     if s[0] == "Take":
-                        stack += ["Word"] if "Keep" in s[2] else []
+                        stack += [grammar.kept.get(s[1], "Word")] if "Keep" in s[2] else []
                     elif s[0] != "Unless":
                         finds, leaves = grammar.actions[s[1]] if s[0] == "Act" else (rules[s[1]].finds, rules[s[1]].leaves)
                         have = stack[len(stack) - len(finds):] if len(stack) >= len(finds) else None
@@ -373,8 +395,7 @@ def write_rules(g):
         text.append("")
     starts = []
     for name, symbols in g.starts.items():
-        low = name[0].lower() + name[1:]
-        starts.append(f"abbrev pub {low} : List Symbol\n{low} = {row(map(symbol, symbols))}\n")
+        starts.append(f"abbrev pub {name} : List Symbol\n{name} = {row(map(symbol, symbols))}\n")
     body, starts = "\n".join(text), "\n".join(starts)
     write(GRAMMAR / "specs/Rules.antt", f"""-- The rules of the grammar, each with its alternatives. {HEAD}
 -- A part that stands or doesn't, or that stands any number of times, is a rule of its own.
@@ -383,7 +404,7 @@ use Rattle.std.specs.Prelude.{{List, [], ◌∷◌}}
 
 abbrev pub alternatives : Rule → List (List Symbol)
 {body}
--- What a whole text is.
+-- What a whole text is: a file, or an expression of a mapping.
 {starts}
 """)
 
@@ -498,6 +519,8 @@ def write_proofs(g, t):
     tests = "\n".join(f"table_test rule.{r} = refl" for r in g.order)
     ends = "\n".join(f"tables_good_end rule.{r} = refl" for r in g.order)
     ranks = "\n".join(f"ranks_good rule.{r} = refl" for r in g.order)
+    free = "\n".join(f"named_good rule.{r} = refl" for r in g.order)
+    quiet = "\n".join(f"quiet_good rule.{r} = refl" for r in g.order)
     write(READER / "proofs/Tables.antt", f"""-- Facts of the tables that the check computes. {HEAD}
 use Rattle.std.proofs.Common.{{List, [], ◌∷◌, Bool, true, ◌≡◌, refl, Some}}
 use Rattle.std.specs.Prelude.{{nat_lt}}
@@ -506,10 +529,13 @@ use {DECLARED}.kind.Kind.{{Kind}}
 use {DECLARED}.kind.Kind.TheVariants as kind
 use {DECLARED}.rule.Rule.{{Rule}}
 use {DECLARED}.rule.Rule.TheVariants as rule
+use Rattle.c_grammar.specs.Rules.{{alternatives}}
 use Rattle.c_grammar.specs.Reading.{{Among, first, later}}
 use Rattle.c_reader.specs.Choices.{{choices, first_kinds, code}}
 use Rattle.c_reader.specs.Ranks.{{blocked_kinds, used_rules, rank}}
 use Rattle.c_reader.specs.Follow.{{work_then}}
+use Rattle.c_reader.specs.Depth.{{quiet}}
+use Rattle.c_reader.proofs.LeftOut.{{names}}
 use Rattle.c_reader.proofs.Choice.{{test_at, test_end, all_of, implies}}
 
 abbrev pub all_kinds : List Kind
@@ -529,6 +555,14 @@ tables_good r k = all_of (λ q. test_at choices first_kinds blocked_kinds used_r
 
 pub tables_good_end : (r : Rule) → test_end choices first_kinds used_rules r ≡ true
 {ends}
+
+-- no alternative goes back up before it takes a token
+pub quiet_good : (r : Rule) → list_all (quiet choices) (choices r) ≡ true
+{quiet}
+
+-- no alternative takes a left-out word
+pub named_good : (r : Rule) → list_all names (alternatives r) ≡ true
+{free}
 
 -- an alternative's work is less than its rule's
 abbrev pub rank_test : Rule → Bool
@@ -585,10 +619,13 @@ def write_shapes(g):
         effects.append(f"effect_sorts action.{a} vs rest e = " + (f"ap (λ x. {head}) ({inner})" if leaves else inner))
     effects = "\n".join(effects)
     of = "\n".join(f"sort_of (value.{s} x) = {s}" for s in g.sorts)
+    kept = "".join(f"kept_sort kind.{k} = {s}\n" for k, s in g.kept.items())
     listed = "\n".join(f"  {s} : Sort" for s in g.sorts)
     write(READER / "proofs/Sorts.antt", f"""-- The sorts of the values that actions and rules find, newest first, and of those that they leave in their place. {HEAD}
 use Rattle.std.specs.Prelude.{{ℕ, List, [], ◌∷◌, nat_eq, cond}}
 use Rattle.std.proofs.Common.{{◌≡◌, Option, Some, refl}}
+use {DECLARED}.kind.Kind.{{Kind}}
+use {DECLARED}.kind.Kind.TheVariants as kind
 use {DECLARED}.rule.Rule.{{Rule}}
 use {DECLARED}.rule.Rule.TheVariants as rule
 use {DECLARED}.action.Action.{{Action}}
@@ -601,6 +638,10 @@ pub data Sort : Type 0 where
 
 abbrev pub sort_of : Value → Sort
 {of}
+
+-- the sort of a token that is kept
+abbrev pub kept_sort : Kind → Sort
+{kept}kept_sort k = Word
 
 abbrev pub wants : Action → List Sort
 {wants}

@@ -1,9 +1,7 @@
 -- Live lists of tokens, readings and faults.
-use Rattle.std.specs.Prelude.{◌≡◌, ◌≢◌, ℕ, ◌+◌, ◌<◌, ◌≤◌, List, [], ◌∷◌, ◌++◌, length, take, map, Option, Some, slice_get, ◌⊎◌}
-use Rattle.c_tree.specs.declared.token.Token.{Token}
+use Rattle.std.specs.Prelude.{◌≡◌, ◌≢◌, ℕ, ◌+◌, ◌<◌, ◌≤◌, List, [], ◌∷◌, ◌++◌, length, take, Option, Some, slice_get, ◌⊎◌}
 use Rattle.c_tree.specs.declared.cause.ReadCause.{ReadCause}
 use Rattle.c_tree.specs.declared.cause.ReadCause.TheVariants as cause
-use Rattle.c_tree.specs.declared.program.Program.{Program}
 use Rattle.c_grammar.specs.declared.kind.Kind.{Kind}
 use Rattle.c_grammar.specs.declared.kind.Kind.TheVariants as kind
 use Rattle.c_grammar.specs.declared.rule.Rule.{Rule}
@@ -12,36 +10,27 @@ use Rattle.c_grammar.specs.declared.symbol.Mark.{Mark}
 use Rattle.c_grammar.specs.declared.symbol.Symbol.{Symbol}
 use Rattle.c_grammar.specs.declared.symbol.Symbol.TheVariants.{Take, Unless, Act, Expand}
 use Rattle.c_grammar.specs.declared.value.Value.{Value}
-use Rattle.c_grammar.specs.declared.value.Value.TheVariants as value
-use Rattle.c_grammar.specs.Tokens.{kind_of, text_of}
-use Rattle.c_grammar.specs.Rules.{alternatives, start}
+use Rattle.c_grammar.specs.Tokens.{text_of}
+use Rattle.c_grammar.specs.Pieces.{Piece}
+use Rattle.c_grammar.specs.Rules.{alternatives}
 use Rattle.c_grammar.specs.Values.{word_in}
 use Rattle.c_grammar.specs.Effects.{State, effect, with_token, empty}
-
--- What the grammar sees of a token: its kind, its offset, and the value that it is where it is kept.
-pub record Piece : Type 0 where
-  pub kind : Kind
-  pub at : ℕ
-  pub value : Value
-
-abbrev pub piece : Token → Piece
-piece t = record { kind = kind_of t.kind; at = t.at; value = value.Word t }
 
 -- x is in the list
 pub data Among {X : Type 0} (x : X) : List X → Type 0 where
   first : {xs : List X} → Among x (x ∷ xs)
   later : {y : X} {xs : List X} → Among x xs → Among x (y ∷ xs)
 
--- What is asked of the state behind some tokens: nothing; that more constructs are open than a limit; or that the
+-- What is asked of the state behind some tokens: nothing; that no more constructs are open than a limit; or that the
 -- expression has more operators than a limit.
 pub data Test : Type 0 where
   Any : Test
-  Deep : ℕ → Test
+  Within : ℕ → Test
   Over : ℕ → Test
 
 abbrev pub Passes : Test → State → Type 0
 Passes Any state = Unit {0}
-Passes (Deep limit) state = limit < state.depth
+Passes (Within limit) state = state.depth ≤ limit
 Passes (Over limit) state = limit < state.operators
 
 -- What is asked of a list of tokens: that all of them can be taken, to a state that passes a test; or that they use up
@@ -92,9 +81,10 @@ depth_limit _ = 100
 abbrev pub operator_limit : ℕ
 operator_limit = 1000
 
--- Behind these tokens, one of this kind stands inside more constructs than it may.
+-- Behind these tokens, one of this kind stands inside more constructs than it may: no way to take them and to go back up as
+-- far as can be without another token leaves so few open.
 abbrev pub IsDeep : List Symbol → Kind → List Piece → Type 0
-IsDeep begin k ps = Goes alternatives (Part (Deep (depth_limit k))) begin empty ps
+IsDeep begin k ps = Goes alternatives (Part (Within (depth_limit k))) begin empty ps → ⊥
 
 -- With these tokens, the expression has more operators than it may.
 abbrev pub IsOver : List Symbol → List Piece → Type 0
@@ -142,20 +132,3 @@ pub record IsReading (begin : List Symbol) (ps : List Piece) (values : List Valu
   pub reads : Reads begin ps values
   pub only : (others : List Value) → Reads begin ps others → others ≡ values
   pub sound : AreSound begin ps (length ps)
-
--- The tokens are the one text of a file of so many bytes that is this program.
-pub record IsReadingOf (ts : List Token) (len : ℕ) (program : Program) : Type 0 where
-  pub read : Program
-  pub reading : IsReading start (map piece ts) (value.Program read ∷ [])
-  pub whole : program ≡ record read { len = len }
-
--- The first fault of a file of so many bytes has this offset and this cause; the end of the file counts as a token.
-pub data IsFirstFault (ts : List Token) (len at : ℕ) (c : ReadCause) : Type 0 where
-  at_token : (i : ℕ) (t : Token) → slice_get ts i ≡ Some t → at ≡ t.at → IsFirst start (map piece ts) i c → IsFirstFault ts len at c
-  at_end : at ≡ len → c ≡ cause.Unexpected → IsCutShort start (map piece ts) → IsFirstFault ts len at c
-
--- A file has at most one answer: one program, or one first fault.
-pub record OneAnswer : Type 0 where
-  pub one_program : (ts : List Token) (len : ℕ) (p q : Program) → IsReadingOf ts len p → IsReadingOf ts len q → p ≡ q
-  pub one_fault : (ts : List Token) (len a b : ℕ) (c d : ReadCause) → IsFirstFault ts len a c → IsFirstFault ts len b d → (a ≡ b) × (c ≡ d)
-  pub never_both : (ts : List Token) (len a : ℕ) (p : Program) (c : ReadCause) → IsReadingOf ts len p → IsFirstFault ts len a c → ⊥

@@ -1,5 +1,5 @@
 -- The values that were read, the newest in front.
-use Rattle.std.specs.Prelude.{ℕ, pos, List, [], ◌∷◌, Option, Some, None}
+use Rattle.std.specs.Prelude.{ℕ, pos, List, [], ◌∷◌, Option, Some, None, false}
 use Rattle.c_tree.specs.declared.token.Token.{Token}
 use Rattle.c_tree.specs.declared.token.TokenKind.TheVariants as token
 use Rattle.c_tree.specs.declared.ty.Ty.{Ty}
@@ -11,6 +11,12 @@ use Rattle.c_tree.specs.declared.program.Stmt.{Stmt}
 use Rattle.c_tree.specs.declared.program.StmtKind.{StmtKind}
 use Rattle.c_tree.specs.declared.program.StmtKind.TheVariants as s
 use Rattle.c_tree.specs.declared.program.Field.{Field}
+use Rattle.c_tree.specs.declared.program.At.{At}
+use Rattle.c_tree.specs.declared.program.Count.{Count}
+use Rattle.c_tree.specs.declared.program.Count.TheVariants as count
+use Rattle.c_tree.specs.declared.program.Const.{Const}
+use Rattle.c_tree.specs.declared.program.Const.TheVariants as const
+use Rattle.c_tree.specs.declared.program.Define.{Define}
 use Rattle.c_tree.specs.declared.program.Program.{Program}
 use Rattle.c_grammar.specs.declared.value.Operand.{Operand}
 use Rattle.c_grammar.specs.declared.value.Value.{Value}
@@ -80,9 +86,25 @@ abbrev pub stmts_in : List Value → List Stmt
 stmts_in (value.Stmts xs ∷ vs) = xs
 stmts_in _ = []
 
+abbrev pub maybe_stmt_in : List Value → Option Stmt
+maybe_stmt_in (value.MaybeStmt x ∷ vs) = x
+maybe_stmt_in _ = None
+
 abbrev pub fields_in : List Value → List Field
 fields_in (value.Fields xs ∷ vs) = xs
 fields_in _ = []
+
+abbrev pub count_in : List Value → At Count
+count_in (value.Count x ∷ vs) = x
+count_in _ = record { at = 0; it = count.Number (pos 0) }
+
+abbrev pub const_in : List Value → At Const
+const_in (value.Const x ∷ vs) = x
+const_in _ = record { at = 0; it = const.Null }
+
+abbrev pub define_in : List Value → Define
+define_in (value.Define x ∷ vs) = x
+define_in _ = record { name = record { at = 0; it = [] }; minus = false; value = pos 0 }
 
 abbrev pub program_in : List Value → Program
 program_in (value.Program p ∷ vs) = p

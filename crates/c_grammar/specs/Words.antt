@@ -35,7 +35,6 @@ words =
     record { text = codes "pthread_mutex_lock"; kind = kind.Lock } ∷
     record { text = codes "pthread_mutex_unlock"; kind = kind.Unlock } ∷
     record { text = codes "PTHREAD_MUTEX_INITIALIZER"; kind = kind.Initializer } ∷
-    record { text = codes "main"; kind = kind.Main } ∷
     record { text = codes "char"; kind = kind.LeftOut } ∷
     record { text = codes "unsigned"; kind = kind.LeftOut } ∷
     record { text = codes "signed"; kind = kind.LeftOut } ∷

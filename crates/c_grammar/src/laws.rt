@@ -1,8 +1,14 @@
 //! Laws of the definitions.
 
-ghost use Rattle.c_grammar.specs.Reading.{OneAnswer};
+ghost use Rattle.c_grammar.specs.SameWords.{SameWords};
+ghost use Rattle.c_grammar.specs.Source.{OneAnswer};
 
-/// That a file has at most one answer: one program, or one first fault.
-pub fn a_file_has_one_answer()
+/// That a source has at most one answer: one program, or one first fault.
+pub fn a_source_has_one_answer()
     ensures { OneAnswer }
+{}
+
+/// That the words that are no names, and those that are left out, are the same to the grammar as to the tokens.
+pub fn words_are_those_of_the_tokens()
+    ensures { SameWords }
 {}

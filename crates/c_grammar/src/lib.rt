@@ -1,19 +1,24 @@
 //! The grammar of sources: what a token is to it, its rules, and the tree that a text of it is.
 //!
-//! The reader rests on the relation of `specs/Reading`: what it takes to read some tokens by some rules. The code here
-//! knows which kind a token has, and what each action makes of the values that were read.
+//! Which texts are programs, and what the first fault of the others is, stands in `specs/Source`, over the relation of
+//! `specs/Reading`. The code reads nothing: the layer above rests on `act`, by which the values that were read become what
+//! the definition of the action makes of them.
 #![tactic(auto)]
 
 mod action;
 mod acts;
+mod call;
+mod constant;
 mod decl;
 mod expr;
 mod item;
 mod kind;
 mod laws;
 mod pop;
+mod readable;
 mod rule;
 mod sign;
+mod simple;
 mod stmt;
 mod symbol;
 mod token;
@@ -23,9 +28,9 @@ mod words;
 pub use action::Action;
 pub use acts::{act, closes, operators_after};
 pub use kind::Kind;
-pub use laws::a_file_has_one_answer;
-pub use pop::{pop_operand, pop_program, push_value};
+pub use laws::{a_source_has_one_answer, words_are_those_of_the_tokens};
+pub use pop::{pop_operand, pop_program, push_value, word_of};
+pub use readable::Readable;
 pub use rule::Rule;
 pub use symbol::{Mark, Symbol};
-pub use token::{copy_token, kind_of, text_of};
 pub use value::{Operand, Value};

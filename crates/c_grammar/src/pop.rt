@@ -1,11 +1,17 @@
 //! The stack of values: the newest is last. A value of another sort than the wanted one never comes, as the rules' sorts
 //! show; a fixed value then stands for it.
 
-ghost use Rattle.std.specs.Prelude.{◌≡◌, ◌∷◌, reverse, OnOk, IfOk};
+ghost use Rattle.std.specs.Prelude.{◌≡◌, [], ◌∷◌, reverse, OnOk, IfOk};
+ghost use Rattle.c_grammar.specs.Effects.{named};
+ghost use Rattle.c_grammar.specs.Tokens.{text_of};
 ghost use Rattle.c_grammar.specs.Values as spec;
 
+use crate::token::text_of;
 use crate::value::{Operand, Value};
-use c_tree::{Boxed, Expr, ExprKind, Field, Program, Row, Stmt, StmtKind, Token, TokenKind, Ty};
+use c_tree::{
+    At, Boxed, Const, Count, Define, Expr, ExprKind, Field, Name, Program, Row, Stmt, StmtKind,
+    Text, Token, TokenKind, Ty,
+};
 use std::alloc::{AllocError, Global};
 
 pub fn push_value(values: &mut Vec<Value>, value: Value) -> Result<(), AllocError>
@@ -39,6 +45,18 @@ pub fn pop_word(values: &mut Vec<Value>) -> Token
                 len: 0,
             }
         }
+    }
+}
+
+/// A name at its offset.
+pub fn pop_name(alloc: Global, values: &mut Vec<Value>) -> At<Name>
+    ensures value { result ≡ named (reverse values.old.items) }
+    ensures rest { reverse values.new.items ≡ spec.older (reverse values.old.items) }
+{
+    let token = pop_word(values);
+    At {
+        at: token.at,
+        it: text_of(alloc, token.kind),
     }
 }
 
@@ -145,6 +163,71 @@ pub fn pop_fields(alloc: Global, values: &mut Vec<Value>) -> Row<Field>
     }
 }
 
+pub fn pop_maybe_stmt(values: &mut Vec<Value>) -> Option<Boxed<Stmt>>
+    ensures value { result ≡ spec.maybe_stmt_in (reverse values.old.items) }
+    ensures rest { reverse values.new.items ≡ spec.older (reverse values.old.items) }
+{
+    match values.pop() {
+        Some(Value::MaybeStmt(stmt)) => stmt,
+        other => {
+            discard(other);
+            None
+        }
+    }
+}
+
+pub fn pop_count(values: &mut Vec<Value>) -> At<Count>
+    ensures value { result ≡ spec.count_in (reverse values.old.items) }
+    ensures rest { reverse values.new.items ≡ spec.older (reverse values.old.items) }
+{
+    match values.pop() {
+        Some(Value::Count(count)) => count,
+        other => {
+            discard(other);
+            At {
+                at: 0,
+                it: Count::Number(0),
+            }
+        }
+    }
+}
+
+pub fn pop_const(values: &mut Vec<Value>) -> At<Const>
+    ensures value { result ≡ spec.const_in (reverse values.old.items) }
+    ensures rest { reverse values.new.items ≡ spec.older (reverse values.old.items) }
+{
+    match values.pop() {
+        Some(Value::Const(value)) => value,
+        other => {
+            discard(other);
+            At {
+                at: 0,
+                it: Const::Null,
+            }
+        }
+    }
+}
+
+pub fn pop_define(alloc: Global, values: &mut Vec<Value>) -> Define
+    ensures value { result ≡ spec.define_in (reverse values.old.items) }
+    ensures rest { reverse values.new.items ≡ spec.older (reverse values.old.items) }
+{
+    match values.pop() {
+        Some(Value::Define(define)) => define,
+        other => {
+            discard(other);
+            Define {
+                name: At {
+                    at: 0,
+                    it: Text::from_vec(Vec::new(alloc)),
+                },
+                minus: false,
+                value: 0,
+            }
+        }
+    }
+}
+
 /// A program without anything, of a file of no bytes.
 pub fn no_program(alloc: Global) -> Program
     ensures { result ≡ spec.no_program }
@@ -168,6 +251,19 @@ pub fn pop_program(alloc: Global, values: &mut Vec<Value>) -> Program
         other => {
             discard(other);
             no_program(alloc)
+        }
+    }
+}
+
+/// The word of a token that was read.
+pub fn word_of(alloc: Global, value: Value) -> Text
+    ensures { result ≡ text_of (spec.word_in (value ∷ [])).kind }
+{
+    match value {
+        Value::Word(token) => text_of(alloc, token.kind),
+        other => {
+            discard(Some(other));
+            Text::from_vec(Vec::new(alloc))
         }
     }
 }

@@ -61,3 +61,13 @@ pub fn assigned_of(kind: Kind) -> Option<BinOp>
         _ => None,
     }
 }
+
+/// The operator by which `++` or `--` changes a place.
+pub fn stepped_of(kind: Kind) -> BinOp
+    ensures { result ≡ spec.stepped_of kind }
+{
+    match kind {
+        Kind::MinusMinus => BinOp::Sub,
+        _ => BinOp::Add,
+    }
+}

@@ -49,7 +49,7 @@ pub fn kind_of(token: &TokenKind) -> Kind
     }
 }
 
-fn copy_kind(token: &TokenKind) -> Result<TokenKind, AllocError>
+pub fn copy_kind(token: &TokenKind) -> Result<TokenKind, AllocError>
     ensures { IfOk result (λ t. t ≡ token.now) }
 {
     Ok(match token {
@@ -94,4 +94,11 @@ pub fn number_of(token: &TokenKind) -> i32
         TokenKind::Char(code) => *code,
         TokenKind::Word(_) | TokenKind::Str(_) | TokenKind::Punct(_) => 0,
     }
+}
+
+/// The number, or 0 where it is below 0.
+pub fn natural(number: i32) -> u32
+    ensures { result ≡ spec.natural number }
+{
+    if number < 0 { 0 } else { number as u32 }
 }

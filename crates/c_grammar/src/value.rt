@@ -1,6 +1,6 @@
 //! The values that are made while a text is read.
 
-use c_tree::{Boxed, Expr, Field, Program, Row, Stmt, Token, Ty};
+use c_tree::{At, Boxed, Const, Count, Define, Expr, Field, Program, Row, Stmt, Token, Ty};
 
 /// An expression, with the offset of the first token that was read for it: of a bracket round it, too.
 #[derive(Drop)]
@@ -19,6 +19,10 @@ pub enum Value {
     MaybeExpr(Option<Expr>),
     Stmt(Boxed<Stmt>),
     Stmts(Row<Stmt>),
+    MaybeStmt(Option<Boxed<Stmt>>),
     Fields(Row<Field>),
+    Count(At<Count>),
+    Const(At<Const>),
+    Define(Define),
     Program(Program),
 }

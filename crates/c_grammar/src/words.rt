@@ -37,7 +37,6 @@ pub fn words() -> &'static [(&'static [u8], Kind)]
         (b"pthread_mutex_lock", Kind::Lock),
         (b"pthread_mutex_unlock", Kind::Unlock),
         (b"PTHREAD_MUTEX_INITIALIZER", Kind::Initializer),
-        (b"main", Kind::Main),
         (b"char", Kind::LeftOut),
         (b"unsigned", Kind::LeftOut),
         (b"signed", Kind::LeftOut),

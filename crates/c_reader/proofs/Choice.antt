@@ -11,7 +11,8 @@ use Rattle.c_grammar.specs.declared.symbol.Symbol.TheVariants.{Take, Unless, Act
 use Rattle.c_grammar.specs.declared.symbol.Mark.{Mark}
 use Rattle.c_grammar.specs.Effects.{State}
 use Rattle.c_grammar.specs.declared.value.Value.{Value}
-use Rattle.c_grammar.specs.Reading.{Piece, Test, Passes, Among, first, later, Aim, Part, Whole, Accepts, NextIsNot, Goes, stop, end, take_token, pass, act, expand}
+use Rattle.c_grammar.specs.Pieces.{Piece}
+use Rattle.c_grammar.specs.Reading.{Test, Passes, Among, first, later, Aim, Part, Whole, Accepts, NextIsNot, Goes, stop, end, take_token, pass, act, expand}
 use Rattle.c_reader.specs.Follow.{blocks, passes, vanishes, vanishes_end, MayTake, Fits}
 use Rattle.c_reader.specs.Choices.{code}
 use Rattle.c_reader.specs.Picks.{is_kind, begins, leads, is_empty, picks, predict}

@@ -1,5 +1,6 @@
 mod KindNumbers
 mod Choice
+mod LeftOut
 mod Tables
 mod Turns
 mod Factoring
@@ -7,4 +8,10 @@ mod Sorts
 mod SortRuns
 mod SortTables
 mod Trees
+mod Depths
 mod Outcomes
+mod Kept
+mod Sources
+mod Answered
+mod Fronts
+mod NearestElse

@@ -4,8 +4,9 @@ use Rattle.std.proofs.Common.{◌≤◌, ◌≢◌, Bool, true, false, get_or, r
 use Rattle.std.proofs.lemmas.Bool.Decides.{when_true, when_false}
 use Rattle.std.proofs.lemmas.List.{take_more, take_all, length-map}
 use Rattle.std.proofs.lemmas.Option.{get_or_from_slice_get, slice_get-get_or, slice_get-map, slice_get_within}
+use Rattle.std.proofs.lemmas.Bool.{leb-true, leb-false}
 use Rattle.std.specs.Bool.{MatchBool}
-use Rattle.std.specs.Prelude.{slice_get, map}
+use Rattle.std.specs.Prelude.{slice_get, map, nat_le}
 use Rattle.std.specs.Option.{option_map}
 use Rattle.c_tree.specs.declared.token.Token.{Token}
 use Rattle.c_tree.specs.declared.program.Program.{Program}
@@ -19,18 +20,20 @@ use Rattle.c_grammar.specs.declared.symbol.Symbol.{Symbol}
 use Rattle.c_grammar.specs.declared.symbol.Symbol.TheVariants.{Take}
 use Rattle.c_grammar.specs.declared.value.Value.{Value}
 use Rattle.c_grammar.specs.declared.value.Value.TheVariants as value
-use Rattle.c_grammar.specs.Tokens.{kind_of, text_of}
+use Rattle.c_grammar.specs.Tokens.{text_of}
 use Rattle.c_grammar.specs.Marks.{opens, counts}
 use Rattle.c_grammar.specs.Rules.{alternatives, start}
 use Rattle.c_grammar.specs.Values.{word_in, program_in}
 use Rattle.c_grammar.specs.Effects.{State, with_token, effect, closes, is_outer, empty}
-use Rattle.c_grammar.specs.Reading.{Piece, piece, Test, Any, Deep, Over, Passes, Aim, Part, Whole, Accepts, Goes, stop, end, take_token, pass, act, expand, IsLive, Reads, IsDeep, IsOver, IsFault, rank, AreSound, IsFirst, IsCutShort, IsReading, IsReadingOf, IsFirstFault, at_token, at_end, depth_limit, operator_limit}
-use Rattle.c_reader.specs.declared.parse.Parse.{Parse}
+use Rattle.c_grammar.specs.Pieces.{Piece, token_piece, lexeme_piece}
+use Rattle.c_grammar.specs.Reading.{Test, Any, Within, Over, Passes, Aim, Part, Whole, Accepts, Goes, stop, end, take_token, pass, act, expand, IsLive, Reads, IsDeep, IsOver, IsFault, rank, AreSound, IsFirst, IsCutShort, IsReading, depth_limit, operator_limit}
+use Rattle.c_reader.specs.declared.found.Found.{Found}
 use Rattle.c_reader.specs.Choices.{choices}
 use Rattle.c_reader.specs.Follow.{FitsReader, Refuses, Reached}
+use Rattle.c_reader.specs.Depth.{least}
 use Rattle.c_reader.specs.Outcome.{Takes, NeverTakes, Meets, Misses, Finishes, NeverFinishes, Follows, FollowsAt, Parses}
-use Rattle.c_reader.proofs.Trees.{AllWords, whole_is}
 use Rattle.c_reader.proofs.Factoring.{to_reader, from_reader}
+use Rattle.c_reader.proofs.Depths.{not_within, reach}
 
 -- A token that is taken.
 
@@ -42,7 +45,7 @@ one_more : (b : Bool) (n m : ℕ) → n ≤ m → n + cond b 1 0 ≤ m + 1
 one_more true n m h = omega arith
 one_more false n m h = omega arith
 
-takes : (mark : Mark) (p : Piece) (symbols : List Symbol) (state : State) (symbols' : List Symbol) (state' : State)
+pub takes : (mark : Mark) (p : Piece) (symbols : List Symbol) (state : State) (symbols' : List Symbol) (state' : State)
     → Reached mark (Some p.kind) symbols state symbols' state' → state'.depth ≤ state.depth → state'.operators ≤ state.operators
     → Takes p symbols state symbols' (with_token mark p.value state')
 takes mark p symbols state symbols' state' r lower fewer = record {
@@ -61,47 +64,53 @@ some_case P Q None m h e = cc
 some_case P Q (Some n) m h e = subst Q (some_is e) h
 
 -- The machine has taken the token: as `keep` leaves it.
-taken_token : (t : Token) (k : Kind) (symbols : List Symbol) (state : State) (symbols' symbols'' : List Symbol) (state' state'' : State) (o : Option Mark) (m : Mark)
-    → k ≡ kind_of t.kind
+taken_token : (p : Piece) (k : Kind) (symbols : List Symbol) (state : State) (symbols' symbols'' : List Symbol) (state' state'' : State) (o : Option Mark) (m : Mark)
+    → k ≡ p.kind
     → MatchOption o (Refuses (Some k) symbols state) (λ m. Reached m (Some k) symbols state symbols' state') → o ≡ Some m
     → state'.depth ≤ state.depth → state'.operators ≤ state.operators
-    → symbols'' ≡ symbols' → state'' ≡ with_token m (value.Word t) state' → Takes (piece t) symbols state symbols'' state''
-taken_token t k symbols state symbols' symbols'' state' state'' o m e r d lower fewer s v =
-    let reached : Reached m (Some (kind_of t.kind)) symbols state symbols' state' =
+    → symbols'' ≡ symbols' → state'' ≡ with_token m p.value state' → Takes p symbols state symbols'' state''
+taken_token p k symbols state symbols' symbols'' state' state'' o m e r d lower fewer s v =
+    let reached : Reached m (Some p.kind) symbols state symbols' state' =
     subst (λ x. Reached m (Some x) symbols state symbols' state') e (some_case _ (λ m. Reached m (Some k) symbols state symbols' state') o m r d) in
-    let base = takes m (piece t) symbols state symbols' state' reached lower fewer in
-    subst (λ x. Takes (piece t) symbols state x state'') (sym s) (subst (λ x. Takes (piece t) symbols state symbols' x) (sym v) base)
+    let base = takes m p symbols state symbols' state' reached lower fewer in
+    subst (λ x. Takes p symbols state x state'') (sym s) (subst (λ x. Takes p symbols state symbols' x) (sym v) base)
 
 no_left_out : (left : Bool) (k k' : Kind) → (IsTrue left ↔ (k ≡ kind.LeftOut)) → left ≡ false → k ≡ k' → k' ≢ kind.LeftOut
 no_left_out true k k' d e f g = cc
 no_left_out false k k' d e f g = let h : false ≡ true = d.1 (f ∙ g) in cc
 
-pub meets : (t : Token) (k : Kind) (symbols : List Symbol) (state : State) (symbols' symbols'' : List Symbol) (state' state'' : State) (o : Option Mark) (m : Mark) (left : Bool) (limit : ℕ)
-    → k ≡ kind_of t.kind → (IsTrue left ↔ (k ≡ kind.LeftOut)) → left ≡ false → limit ≡ depth_limit k → state.depth ≤ limit
+not_deeper : (b : Bool) (limit d : ℕ) → (IsTrue b ↔ (limit < d)) → b ≡ false → d ≤ limit
+not_deeper true limit d e f = cc
+not_deeper false limit d e f = go (nat_le d limit) refl
+  where
+    go : (c : Bool) → nat_le d limit ≡ c → d ≤ limit
+    go true h = leb-true d limit h
+    go false h = let lt : limit < d = leb-false d limit h in let no : false ≡ true = e.1 lt in cc
+
+shallow_kind : (symbols : List Symbol) (depth limit : ℕ) (deeper : Bool) (k k' : Kind) → k ≡ k' → limit ≡ depth_limit k → (IsTrue deeper ↔ (limit < least symbols depth)) → deeper ≡ false → least symbols depth ≤ depth_limit k'
+shallow_kind symbols depth limit deeper k k' e l d f = subst (λ x. least symbols depth ≤ depth_limit x) e (subst (λ x. least symbols depth ≤ x) l (not_deeper deeper limit (least symbols depth) d f))
+
+pub meets : (p : Piece) (k : Kind) (symbols : List Symbol) (state : State) (symbols' symbols'' : List Symbol) (state' state'' : State) (o : Option Mark) (m : Mark) (left deeper : Bool) (limit : ℕ)
+    → k ≡ p.kind → (IsTrue left ↔ (k ≡ kind.LeftOut)) → left ≡ false → limit ≡ depth_limit k → (IsTrue deeper ↔ (limit < least symbols state.depth)) → deeper ≡ false
     → MatchOption o (Refuses (Some k) symbols state) (λ m. Reached m (Some k) symbols state symbols' state') → o ≡ Some m
     → state'.depth ≤ state.depth → state'.operators ≤ state.operators
-    → symbols'' ≡ symbols' → state'' ≡ with_token m (value.Word t) state' → state''.operators ≤ 1000 → Meets (piece t) symbols state symbols'' state''
-meets t k symbols state symbols' symbols'' state' state'' o m left limit e d f l h r g lower fewer s v few = record {
-  named = no_left_out left k _ d f e;
-  shallow = subst (λ x. state.depth ≤ depth_limit x) e (subst (λ x. state.depth ≤ x) l h);
-  takes = taken_token t k symbols state symbols' symbols'' state' state'' o m e r g lower fewer s v;
+    → symbols'' ≡ symbols' → state'' ≡ with_token m p.value state' → state''.operators ≤ 1000 → Meets p symbols state symbols'' state''
+meets p k symbols state symbols' symbols'' state' state'' o m left deeper limit e i f l u h r g lower fewer s v few = record {
+  named = no_left_out left k _ i f e;
+  shallow = shallow_kind symbols state.depth limit deeper k _ e l u h;
+  takes = taken_token p k symbols state symbols' symbols'' state' state'' o m e r g lower fewer s v;
   few = few;
 }
 
-pub misses_over : (t : Token) (k : Kind) (symbols : List Symbol) (state : State) (symbols' symbols'' : List Symbol) (state' state'' : State) (o : Option Mark) (m : Mark) (left : Bool) (limit : ℕ)
-    → k ≡ kind_of t.kind → (IsTrue left ↔ (k ≡ kind.LeftOut)) → left ≡ false → limit ≡ depth_limit k → state.depth ≤ limit
+pub misses_over : (p : Piece) (k : Kind) (symbols : List Symbol) (state : State) (symbols' symbols'' : List Symbol) (state' state'' : State) (o : Option Mark) (m : Mark) (left : Bool)
+    → k ≡ p.kind → (IsTrue left ↔ (k ≡ kind.LeftOut)) → left ≡ false
     → MatchOption o (Refuses (Some k) symbols state) (λ m. Reached m (Some k) symbols state symbols' state') → o ≡ Some m
     → state'.depth ≤ state.depth → state'.operators ≤ state.operators
-    → symbols'' ≡ symbols' → state'' ≡ with_token m (value.Word t) state' → 1000 < state''.operators → Misses (piece t) symbols state cause.TooDeep
-misses_over t k symbols state symbols' symbols'' state' state'' o m left limit e d f l h r g lower fewer s v over = (
-  no_left_out left k _ d f e,
-  inr (
-    subst (λ x. state.depth ≤ depth_limit x) e (subst (λ x. state.depth ≤ x) l h),
-    (symbols'', (state'', (taken_token t k symbols state symbols' symbols'' state' state'' o m e r g lower fewer s v, over))),
-  ),
-)
+    → symbols'' ≡ symbols' → state'' ≡ with_token m p.value state' → 1000 < state''.operators → Misses p symbols state cause.TooDeep
+misses_over p k symbols state symbols' symbols'' state' state'' o m left e i f r g lower fewer s v over =
+    (no_left_out left k _ i f e, inr (symbols'', (state'', (taken_token p k symbols state symbols' symbols'' state' state'' o m e r g lower fewer s v, over))))
 
-never_takes : (p : Piece) (symbols : List Symbol) (state : State) → Refuses (Some p.kind) symbols state → NeverTakes p symbols state
+pub never_takes : (p : Piece) (symbols : List Symbol) (state : State) → Refuses (Some p.kind) symbols state → NeverTakes p symbols state
 never_takes p symbols state r aim ps g = r aim (p ∷ ps) refl g
 
 -- The end of the text.
@@ -110,7 +119,7 @@ ended : (w : List Value) (state : State) → Goes choices (Whole w) [] state [] 
 ended w state (end e) = e
 ended w state (stop ok) = absurd ok
 
-finishes : (mark : Mark) (symbols : List Symbol) (state : State) (symbols' : List Symbol) (state' : State) → Reached mark None symbols state symbols' state' → Finishes symbols state state'
+pub finishes : (mark : Mark) (symbols : List Symbol) (state : State) (symbols' : List Symbol) (state' : State) → Reached mark None symbols state symbols' state' → Finishes symbols state state'
 finishes mark symbols state symbols' state' r =
     let none : symbols' ≡ [] = r.1.1 refl in
     record {
@@ -140,24 +149,23 @@ follows_next begin front front' p symbols state symbols' state' f k e =
 live_so_far : (begin : List Symbol) (front : List Piece) (symbols : List Symbol) (state : State) → Follows begin front symbols state → IsLive begin front
 live_so_far begin front symbols state f = subst (λ x. IsLive begin x) (append-nil front) (f.back (Part Any) [] (stop tt))
 
--- Without a token nothing gets deeper, and no operator is counted.
+-- Without a token no operator is counted.
 abbrev Bounded : Aim → State → List Piece → Type 0
-Bounded (Part (Deep limit)) state [] = limit < state.depth
 Bounded (Part (Over limit)) state [] = limit < state.operators
-Bounded (Part (Deep limit)) state (p ∷ ps) = Unit {0}
 Bounded (Part (Over limit)) state (p ∷ ps) = Unit {0}
+Bounded (Part (Within limit)) state ps = Unit {0}
 Bounded (Part Any) state ps = Unit {0}
 Bounded (Whole values) state ps = Unit {0}
 
 bounded_stop : (aim : Aim) (state : State) → Accepts aim state → Bounded aim state []
 bounded_stop (Part Any) state ok = tt
-bounded_stop (Part (Deep limit)) state ok = ok
+bounded_stop (Part (Within limit)) state ok = tt
 bounded_stop (Part (Over limit)) state ok = ok
 bounded_stop (Whole values) state ok = tt
 
 bounded_take : (aim : Aim) (state : State) (p : Piece) (ps : List Piece) → Bounded aim state (p ∷ ps)
 bounded_take (Part Any) state p ps = tt
-bounded_take (Part (Deep limit)) state p ps = tt
+bounded_take (Part (Within limit)) state p ps = tt
 bounded_take (Part (Over limit)) state p ps = tt
 bounded_take (Whole values) state p ps = tt
 
@@ -167,8 +175,7 @@ fewer_outer false limit n h = h
 
 bounded_act : (a : Action) (aim : Aim) (state : State) (ps : List Piece) → Bounded aim (effect a state) ps → Bounded aim state ps
 bounded_act a (Part Any) state ps b = tt
-bounded_act a (Part (Deep limit)) state [] b = omega arith
-bounded_act a (Part (Deep limit)) state (p ∷ ps) b = tt
+bounded_act a (Part (Within limit)) state ps b = tt
 bounded_act a (Part (Over limit)) state [] b = fewer_outer (is_outer a) limit state.operators b
 bounded_act a (Part (Over limit)) state (p ∷ ps) b = tt
 bounded_act a (Whole values) state ps b = tt
@@ -181,9 +188,13 @@ bounded (pass n g) = bounded g
 bounded (act {aim = aim} {a = a} {state = state} {ps = ps} g) = bounded_act a aim state ps (bounded g)
 bounded (expand m g) = bounded g
 
-shallow_here : (begin : List Symbol) (k : Kind) (front : List Piece) (symbols : List Symbol) (state : State) → Follows begin front symbols state → state.depth ≤ depth_limit k → IsDeep begin k front → ⊥
+shallow_here : (begin : List Symbol) (k : Kind) (front : List Piece) (symbols : List Symbol) (state : State) → Follows begin front symbols state → least symbols state.depth ≤ depth_limit k → IsDeep begin k front → ⊥
 shallow_here begin k front symbols state f le deep =
-    let b : depth_limit k < state.depth = bounded (f.there (Part (Deep (depth_limit k))) [] (subst (λ x. IsDeep begin k x) (sym (append-nil front)) deep)) in absurd (omega arith)
+    deep (subst (λ x. Goes alternatives (Part (Within (depth_limit k))) begin empty x) (append-nil front) (f.back (Part (Within (depth_limit k))) [] (reach (depth_limit k) symbols state le)))
+
+deep_here : (begin : List Symbol) (k : Kind) (front : List Piece) (symbols : List Symbol) (state : State) → Follows begin front symbols state → depth_limit k < least symbols state.depth → IsDeep begin k front
+deep_here begin k front symbols state f lt g =
+    not_within (depth_limit k) symbols state lt (f.there (Part (Within (depth_limit k))) [] (subst (λ x. Goes alternatives (Part (Within (depth_limit k))) begin empty x) (sym (append-nil front)) g))
 
 few_here : (begin : List Symbol) (front : List Piece) (symbols : List Symbol) (state : State) → Follows begin front symbols state → state.operators ≤ operator_limit → IsOver begin front → ⊥
 few_here begin front symbols state f le over =
@@ -213,7 +224,7 @@ sound_here begin ps i p symbols state symbols' state' e f m f' cause.TooLong h =
 up_to : (begin : List Symbol) (ps : List Piece) (i : ℕ) → AreSound begin ps i → ((c : ReadCause) → IsFault begin ps i c → ⊥) → AreSound begin ps (i + 1)
 up_to begin ps i below here j c lt h = below_more (λ j. (c : ReadCause) → IsFault begin ps j c → ⊥) i (λ j lt c h. below j c lt h) here j lt c h
 
-steps_on : (begin : List Symbol) (ps : List Piece) (i : ℕ) (p : Piece) (symbols : List Symbol) (state : State) (symbols' : List Symbol) (state' : State)
+pub steps_on : (begin : List Symbol) (ps : List Piece) (i : ℕ) (p : Piece) (symbols : List Symbol) (state : State) (symbols' : List Symbol) (state' : State)
     → FollowsAt begin ps i symbols state → slice_get ps i ≡ Some p → Meets p symbols state symbols' state' → FollowsAt begin ps (i + 1) symbols' state'
 steps_on begin ps i p symbols state symbols' state' f e m =
     let f' : Follows begin (take (i + 1) ps) symbols' state' = follows_next begin _ _ p symbols state symbols' state' f.follows m.takes (front_more ps i p e) in
@@ -221,6 +232,7 @@ steps_on begin ps i p symbols state symbols' state' f e m =
       follows = f';
       sound = up_to begin ps i f.sound (sound_here begin ps i p symbols state symbols' state' e f.follows m f');
       few = m.few;
+      room = let deeper : state'.depth ≤ state.depth + 1 = m.takes.deeper in let room : state.depth ≤ i = f.room in omega arith;
     }
 
 -- No fault of an earlier cause stands beside it.
@@ -251,7 +263,7 @@ not_over begin ps i p symbols state f e n over =
     n (Part (Over operator_limit)) [] (f.there (Part (Over operator_limit)) (p ∷ []) (subst (λ x. IsOver begin x) (front_more ps i p e) over))
 
 least_unexpected : (begin : List Symbol) (ps : List Piece) (i : ℕ) (p : Piece) (symbols : List Symbol) (state : State)
-    → Follows begin (take i ps) symbols state → slice_get ps i ≡ Some p → p.kind ≢ kind.LeftOut → state.depth ≤ depth_limit p.kind → NeverTakes p symbols state
+    → Follows begin (take i ps) symbols state → slice_get ps i ≡ Some p → p.kind ≢ kind.LeftOut → least symbols state.depth ≤ depth_limit p.kind → NeverTakes p symbols state
     → (d : ReadCause) → rank d < 6 → IsFault begin ps i d → ⊥
 least_unexpected begin ps i p symbols state f e n s t cause.TooDeep l (inl (q, d, deep)) =
     let same : p ≡ q = some_is (sym e ∙ d) in
@@ -275,14 +287,12 @@ first_at begin ps i p symbols state c f e here least = record {
   least = least;
 }
 
-faults_on : (begin : List Symbol) (ps : List Piece) (i : ℕ) (p : Piece) (symbols : List Symbol) (state : State) (c : ReadCause)
+pub faults_on : (begin : List Symbol) (ps : List Piece) (i : ℕ) (p : Piece) (symbols : List Symbol) (state : State) (c : ReadCause)
     → FollowsAt begin ps i symbols state → slice_get ps i ≡ Some p → Misses p symbols state c → IsFirst begin ps i c
 faults_on begin ps i p symbols state (cause.LeftOut word) f e m = first_at begin ps i p symbols state _ f e (p, e, m.0, m.1) (least_left_out begin ps i)
 faults_on begin ps i p symbols state cause.TooDeep f e (n, inl deep) =
-    first_at begin ps i p symbols state _ f e
-    (inl (p, e, subst (λ x. IsDeep begin p.kind x) (append-nil (take i ps)) (f.follows.back (Part (Deep (depth_limit p.kind))) [] (stop deep))))
-    (least_deep begin ps i p e n)
-faults_on begin ps i p symbols state cause.TooDeep f e (n, inr (s, (symbols', (state', (t, over))))) =
+    first_at begin ps i p symbols state _ f e (inl (p, e, deep_here begin p.kind (take i ps) symbols state f.follows deep)) (least_deep begin ps i p e n)
+faults_on begin ps i p symbols state cause.TooDeep f e (n, inr (symbols', (state', (t, over)))) =
     let f' : Follows begin (take (i + 1) ps) symbols' state' = follows_next begin _ _ p symbols state symbols' state' f.follows t (front_more ps i p e) in
     first_at begin ps i p symbols state _ f e
     (inr (subst (λ x. IsOver begin x) (append-nil (take (i + 1) ps)) (f'.back (Part (Over operator_limit)) [] (stop over))))
@@ -297,17 +307,15 @@ faults_on begin ps i p symbols state cause.Unclosed f e m = absurd m
 faults_on begin ps i p symbols state cause.Literal f e m = absurd m
 faults_on begin ps i p symbols state cause.TooLong f e m = absurd m
 
--- In the form in which the loop of `parse` has it: the tokens are the pieces of a list.
+-- In the form in which the loop of `parse` has it: the pieces are what is seen of the items of a list.
 
-piece_at : (ts : List Token) (i : ℕ) (t : Token) → i < length ts → t ≡ get_or ts i t → slice_get (map piece ts) i ≡ Some (piece t)
-piece_at ts i t lt e = slice_get-map piece ts i ∙ ap (λ o. option_map piece o) (slice_get-get_or ts i t lt ∙ ap (λ x. Some x) (sym e))
-
-starts_on : (begin : List Symbol) (ps : List Piece) (symbols : List Symbol) (state : State)
+pub starts_on : (begin : List Symbol) (ps : List Piece) (symbols : List Symbol) (state : State)
     → FitsReader begin → symbols ≡ begin → state ≡ empty → FollowsAt begin ps 0 symbols state
 starts_on begin ps symbols state fits e d = record {
   follows = subst (λ x. Follows begin [] symbols x) (sym d) (subst (λ x. Follows begin [] x empty) (sym e) (follows_start begin fits));
   sound = λ j c lt h. absurd (omega arith);
   few = subst (λ x. x.operators ≤ operator_limit) (sym d) (omega arith);
+  room = subst (λ x. x.depth ≤ 0) (sym d) (omega arith);
 }
 
 pub starts_at : (begin : List Symbol) (ps : List Piece) (old stack : List Symbol) (values : List Value)
@@ -316,27 +324,31 @@ pub starts_at : (begin : List Symbol) (ps : List Piece) (old stack : List Symbol
 starts_at begin ps old stack values fits e d v =
     starts_on begin ps _ _ fits (e ∙ ap (λ x. begin ++ reverse x) d ∙ append-nil begin) (ap (λ x. record { values = reverse x; depth = 0; operators = 0 }) v)
 
-pub steps_at : (begin : List Symbol) (ts : List Token) (i : ℕ) (t : Token) (symbols : List Symbol) (state : State) (symbols' : List Symbol) (state' : State) (o : Option ReadCause)
-    → FollowsAt begin (map piece ts) i symbols state → i < length ts → t ≡ get_or ts i t
-    → MatchOption o (Meets (piece t) symbols state symbols' state') (Misses (piece t) symbols state) → o ≡ None
-    → FollowsAt begin (map piece ts) (i + 1) symbols' state'
-steps_at begin ts i t symbols state symbols' state' o f lt d h e =
-    steps_on begin (map piece ts) i (piece t) symbols state symbols' state' f (piece_at ts i t lt d)
-    (subst (λ x. MatchOption x (Meets (piece t) symbols state symbols' state') (Misses (piece t) symbols state)) e h)
+module _ {X : Type 0} (seen : X → Piece) where
+  pub piece_at : (xs : List X) (i : ℕ) (x : X) → i < length xs → x ≡ get_or xs i x → slice_get (map seen xs) i ≡ Some (seen x)
+  piece_at xs i x lt e = slice_get-map seen xs i ∙ ap (λ o. option_map seen o) (slice_get-get_or xs i x lt ∙ ap (λ x. Some x) (sym e))
 
-pub faults_at : (begin : List Symbol) (ts : List Token) (i : ℕ) (t : Token) (symbols : List Symbol) (state : State) (symbols' : List Symbol) (state' : State) (o : Option ReadCause) (c : ReadCause)
-    → FollowsAt begin (map piece ts) i symbols state → i < length ts → t ≡ get_or ts i t
-    → MatchOption o (Meets (piece t) symbols state symbols' state') (Misses (piece t) symbols state) → o ≡ Some c
-    → IsFirst begin (map piece ts) i c
-faults_at begin ts i t symbols state symbols' state' o c f lt d h e =
-    faults_on begin (map piece ts) i (piece t) symbols state c f (piece_at ts i t lt d)
-    (subst (λ x. MatchOption x (Meets (piece t) symbols state symbols' state') (Misses (piece t) symbols state)) e h)
+  pub steps_at : (begin : List Symbol) (xs : List X) (i : ℕ) (x : X) (symbols : List Symbol) (state : State) (symbols' : List Symbol) (state' : State) (o : Option ReadCause)
+      → FollowsAt begin (map seen xs) i symbols state → i < length xs → x ≡ get_or xs i x
+      → MatchOption o (Meets (seen x) symbols state symbols' state') (Misses (seen x) symbols state) → o ≡ None
+      → FollowsAt begin (map seen xs) (i + 1) symbols' state'
+  steps_at begin xs i x symbols state symbols' state' o f lt d h e =
+      steps_on begin (map seen xs) i (seen x) symbols state symbols' state' f (piece_at xs i x lt d)
+      (subst (λ y. MatchOption y (Meets (seen x) symbols state symbols' state') (Misses (seen x) symbols state)) e h)
+
+  pub faults_at : (begin : List Symbol) (xs : List X) (i : ℕ) (x : X) (symbols : List Symbol) (state : State) (symbols' : List Symbol) (state' : State) (o : Option ReadCause) (c : ReadCause)
+      → FollowsAt begin (map seen xs) i symbols state → i < length xs → x ≡ get_or xs i x
+      → MatchOption o (Meets (seen x) symbols state symbols' state') (Misses (seen x) symbols state) → o ≡ Some c
+      → IsFirst begin (map seen xs) i c
+  faults_at begin xs i x symbols state symbols' state' o c f lt d h e =
+      faults_on begin (map seen xs) i (seen x) symbols state c f (piece_at xs i x lt d)
+      (subst (λ y. MatchOption y (Meets (seen x) symbols state symbols' state') (Misses (seen x) symbols state)) e h)
 
 at_the_end : (begin : List Symbol) (ps : List Piece) (i : ℕ) (symbols : List Symbol) (state : State) → length ps ≤ i → FollowsAt begin ps i symbols state → Follows begin ps symbols state × AreSound begin ps (length ps)
 at_the_end begin ps i symbols state le f =
     (subst (λ x. Follows begin x symbols state) (take_all i ps le) f.follows, λ j c lt h. f.sound j c (omega arith) h)
 
-reads_on : (begin : List Symbol) (ps : List Piece) (i : ℕ) (symbols : List Symbol) (state state' : State)
+pub reads_on : (begin : List Symbol) (ps : List Piece) (i : ℕ) (symbols : List Symbol) (state state' : State)
     → FollowsAt begin ps i symbols state → length ps ≤ i → Finishes symbols state state' → IsReading begin ps state'.values
 reads_on begin ps i symbols state state' f le d =
     let (f', sound) : Follows begin ps symbols state × AreSound begin ps (length ps) = at_the_end begin ps i symbols state le f in
@@ -346,14 +358,7 @@ reads_on begin ps i symbols state state' f le d =
       sound = sound;
     }
 
-pub reads_at : (begin : List Symbol) (ts : List Token) (i : ℕ) (symbols : List Symbol) (state state' : State) (b : Bool) (vs : List Value)
-    → FollowsAt begin (map piece ts) i symbols state → length ts ≤ i → MatchBool b (Finishes symbols state state') (NeverFinishes symbols state) → b ≡ true
-    → vs ≡ state'.values → IsReading begin (map piece ts) vs
-reads_at begin ts i symbols state state' b vs f le h e d =
-    subst (λ x. IsReading begin (map piece ts) x) (sym d)
-    (reads_on begin (map piece ts) i symbols state state' f (rw (length-map ts piece) le) (when_true _ _ e h))
-
-cut_on : (begin : List Symbol) (ps : List Piece) (i : ℕ) (symbols : List Symbol) (state : State)
+pub cut_on : (begin : List Symbol) (ps : List Piece) (i : ℕ) (symbols : List Symbol) (state : State)
     → FollowsAt begin ps i symbols state → length ps ≤ i → NeverFinishes symbols state → IsCutShort begin ps
 cut_on begin ps i symbols state f le n =
     let (f', sound) : Follows begin ps symbols state × AreSound begin ps (length ps) = at_the_end begin ps i symbols state le f in
@@ -363,37 +368,19 @@ cut_on begin ps i symbols state f le n =
       here = λ others r. n others (f'.there (Whole others) [] (subst (λ x. Goes alternatives (Whole others) begin empty x) (sym (append-nil ps)) r));
     }
 
-pub cut_at : (begin : List Symbol) (ts : List Token) (i : ℕ) (symbols : List Symbol) (state state' : State) (b : Bool)
-    → FollowsAt begin (map piece ts) i symbols state → length ts ≤ i → MatchBool b (Finishes symbols state state') (NeverFinishes symbols state) → b ≡ false
-    → IsCutShort begin (map piece ts)
-cut_at begin ts i symbols state state' b f le h e = cut_on begin (map piece ts) i symbols state f (rw (length-map ts piece) le) (when_false _ _ e h)
+module _ {X : Type 0} (seen : X → Piece) where
+  pub reads_at : (begin : List Symbol) (xs : List X) (i : ℕ) (symbols : List Symbol) (state state' : State) (b : Bool) (vs : List Value)
+      → FollowsAt begin (map seen xs) i symbols state → length xs ≤ i → MatchBool b (Finishes symbols state state') (NeverFinishes symbols state) → b ≡ true
+      → vs ≡ state'.values → IsReading begin (map seen xs) vs
+  reads_at begin xs i symbols state state' b vs f le h e d =
+      subst (λ x. IsReading begin (map seen xs) x) (sym d)
+      (reads_on begin (map seen xs) i symbols state state' f (rw (length-map xs seen) le) (when_true _ _ e h))
 
--- What a file leaves.
-
-pub start_fits : FitsReader start
-start_fits = (refl, (λ k b m. m, tt))
+  pub cut_at : (begin : List Symbol) (xs : List X) (i : ℕ) (symbols : List Symbol) (state state' : State) (b : Bool)
+      → FollowsAt begin (map seen xs) i symbols state → length xs ≤ i → MatchBool b (Finishes symbols state state') (NeverFinishes symbols state) → b ≡ false
+      → IsCutShort begin (map seen xs)
+  cut_at begin xs i symbols state state' b f le h e = cut_on begin (map seen xs) i symbols state f (rw (length-map xs seen) le) (when_false _ _ e h)
 
 -- The machine's answer, at the case that the code is in.
-pub at_case : (begin : List Symbol) (ps : List Piece) (p q : Parse) → Parses begin ps p → p ≡ q → Parses begin ps q
+pub at_case : (begin : List Symbol) (ps : List Piece) (p q : Found) → Parses begin ps p → p ≡ q → Parses begin ps q
 at_case begin ps p q h e = subst (λ x. Parses begin ps x) e h
-
-all_words : (ts : List Token) → AllWords (map piece ts)
-all_words [] = tt
-all_words (t ∷ ts) = (refl, all_words ts)
-
-pub file_read : (ts : List Token) (len : ℕ) (values : List Value) (program : Program) → IsReading start (map piece ts) values → program ≡ record (program_in values) { len = len }
-    → IsReadingOf ts len program
-file_read ts len values program r e = record {
-  read = program_in values;
-  reading = subst (λ v. IsReading start (map piece ts) v) (whole_is values (map piece ts) (all_words ts) r.reads) r;
-  whole = e;
-}
-
-pub file_fault : (ts : List Token) (len i : ℕ) (d : Token) (c : ReadCause) → IsFirst start (map piece ts) i c → IsFirstFault ts len (get_or ts i d).at c
-file_fault ts len i d c f =
-    let lt' : i < length (map piece ts) = f.within in
-    let lt : i < length ts = rw length-map at lt' in
-    at_token i (get_or ts i d) (slice_get-get_or ts i d lt) refl f
-
-pub within_tokens : (ts : List Token) (i : ℕ) (c : ReadCause) → IsFirst start (map piece ts) i c → i < length ts
-within_tokens ts i c f = let lt : i < length (map piece ts) = f.within in rw length-map at lt

@@ -4,11 +4,9 @@ use Rattle.std.proofs.Common.{◌≡◌, Option, Some, None, refl, sym, ◌∙�
 use Rattle.c_grammar.specs.declared.symbol.Symbol.{Symbol}
 use Rattle.c_grammar.specs.declared.symbol.Symbol.TheVariants.{Take, Unless, Act, Expand}
 use Rattle.c_grammar.specs.declared.value.Value.{Value}
-use Rattle.c_grammar.specs.declared.value.Value.TheVariants as value
 use Rattle.c_grammar.specs.Marks.{keeps}
 use Rattle.c_grammar.specs.Values.{older}
-use Rattle.c_reader.proofs.Sorts.{Sort, sort_code, sort_from, sort_back, sort_of, wants, makes, takes, gives}
-use Rattle.c_reader.proofs.Sorts as sort
+use Rattle.c_reader.proofs.Sorts.{Sort, sort_code, sort_from, sort_back, sort_of, kept_sort, wants, makes, takes, gives}
 
 abbrev pub sorts : List Value → List Sort
 sorts vs = map sort_of vs
@@ -29,7 +27,7 @@ and_then (Some x) f = f x
 -- the sorts after the symbols, if each finds what it wants
 abbrev pub run : List Symbol → List Sort → Option (List Sort)
 run [] found = Some found
-run (Take k mark ∷ symbols) found = run symbols (cond (keeps mark) (sort.Word ∷ found) found)
+run (Take k mark ∷ symbols) found = run symbols (cond (keeps mark) (kept_sort k ∷ found) found)
 run (Unless k ∷ symbols) found = run symbols found
 run (Act a ∷ symbols) found = and_then (strip (wants a) found) (λ rest. run symbols (makes a ++ rest))
 run (Expand r ∷ symbols) found = and_then (strip (takes r) found) (λ rest. run symbols (gives r ++ rest))

@@ -13,7 +13,8 @@ use Rattle.c_grammar.specs.declared.symbol.Mark.{Mark}
 use Rattle.c_grammar.specs.declared.value.Value.{Value}
 use Rattle.std.proofs.Common.{◌-◌}
 use Rattle.c_grammar.specs.Effects.{effect, closes, is_outer, State}
-use Rattle.c_grammar.specs.Reading.{Piece, Test, Among, first, later, Aim, Part, Whole, Accepts, NextIsNot, Goes, stop, end, take_token, pass, act, expand}
+use Rattle.c_grammar.specs.Pieces.{Piece}
+use Rattle.c_grammar.specs.Reading.{Test, Among, first, later, Aim, Part, Whole, Accepts, NextIsNot, Goes, stop, end, take_token, pass, act, expand}
 use Rattle.c_reader.specs.Choices.{choices, first_kinds}
 use Rattle.c_reader.specs.Ranks.{blocked_kinds, used_rules, rank}
 use Rattle.c_reader.specs.Picks.{is_kind, picks, predict}
@@ -21,11 +22,11 @@ use Rattle.c_reader.specs.Follow.{vanishes_end, work_then, work, Ahead, Leads, R
 use Rattle.c_reader.proofs.Choice.{kind_from_code, kind_is, chosen, chosen_end, fits_after, closed_end, may_end, all_of, implied}
 use Rattle.c_reader.proofs.Tables.{all_kinds, kind_place, tables_good, tables_good_end, ranks_good}
 
-differ : (b : Bool) → b ≡ true → b ≡ false → ⊥
+pub differ : (b : Bool) → b ≡ true → b ≡ false → ⊥
 differ true h i = cc
 differ false h i = cc
 
-same_kind : (k q : Kind) → is_kind q (Some k) ≡ true → k ≡ q
+pub same_kind : (k q : Kind) → is_kind q (Some k) ≡ true → k ≡ q
 same_kind k q h = kind_from_code all_kinds kind_place k q h
 
 pub leads_refl : (ahead : Option Kind) (symbols : List Symbol) (values : State) → Leads ahead symbols values symbols values
@@ -166,10 +167,10 @@ expand_changed ahead r symbols values front fits found = record {
     member = find_among (picks first_kinds r ahead) (choices r) front found
 
     vanish : may_end choices front ≡ true → vanishes_end choices r ≡ true
-    vanish h = closed_end all_kinds kind_place choices first_kinds blocked_kinds used_rules tables_good tables_good_end member h
+    vanish h = closed_end all_kinds kind_place choices first_kinds blocked_kinds used_rules tables_good tables_good_end {r = r} {symbols = front} member h
 
     below : work_then choices rank front 0 < rank r
-    below = ltb-true _ _ (all_of (λ s. nat_lt (work_then choices rank s 0) (rank r)) member (implied (used_rules r) _ (ranks_good r) fits.0))
+    below = ltb-true (work_then choices rank front 0) (rank r) (all_of (λ s. nat_lt (work_then choices rank s 0) (rank r)) member (implied (used_rules r) _ (ranks_good r) fits.0))
 
     cases : (b c : Bool) → (b ≡ true → c ≡ true) → work_then choices rank front 0 + cond b (work symbols) 0 < rank r + cond c (work symbols) 0
     cases true c h = rw (h refl) (omega (arith, below))

@@ -7,7 +7,8 @@ use Rattle.c_grammar.specs.declared.symbol.Mark.{Mark}
 use Rattle.c_grammar.specs.declared.symbol.Symbol.{Symbol}
 use Rattle.c_grammar.specs.declared.symbol.Symbol.TheVariants.{Take, Unless, Act, Expand}
 use Rattle.c_grammar.specs.Effects.{State}
-use Rattle.c_grammar.specs.Reading.{Piece, Aim, Part, Whole, Goes}
+use Rattle.c_grammar.specs.Pieces.{Piece}
+use Rattle.c_grammar.specs.Reading.{Aim, Part, Whole, Goes}
 use Rattle.c_reader.specs.declared.turn.Turn.{Turn}
 use Rattle.c_reader.specs.declared.turn.Turn.TheVariants as turn
 use Rattle.c_reader.specs.Choices.{choices, first_kinds}

@@ -9,17 +9,19 @@ use Rattle.c_grammar.specs.Tokens.{text_of}
 use Rattle.c_grammar.specs.Values.{word_in}
 use Rattle.c_grammar.specs.Effects.{State, empty}
 use Rattle.c_grammar.specs.Rules.{alternatives}
-use Rattle.c_grammar.specs.Reading.{Piece, Aim, Whole, Goes, depth_limit, operator_limit, AreSound, IsFirst, IsCutShort, IsReading}
-use Rattle.c_reader.specs.declared.parse.Parse.{Parse}
-use Rattle.c_reader.specs.declared.parse.Parse.TheVariants as parse
+use Rattle.c_grammar.specs.Pieces.{Piece}
+use Rattle.c_grammar.specs.Reading.{Aim, Whole, Goes, depth_limit, operator_limit, AreSound, IsFirst, IsCutShort, IsReading}
+use Rattle.c_reader.specs.declared.found.Found.{Found}
+use Rattle.c_reader.specs.declared.found.Found.TheVariants as found
 use Rattle.c_reader.specs.Choices.{choices}
 use Rattle.c_reader.specs.Follow.{FitsReader}
+use Rattle.c_reader.specs.Depth.{least}
 
 -- What the answer says.
-abbrev pub Parses : List Symbol → List Piece → Parse → Type 0
-Parses begin ps (parse.Done values) = IsReading begin ps (reverse values.items)
-Parses begin ps (parse.Fault i c) = IsFirst begin ps i c
-Parses begin ps parse.CutShort = IsCutShort begin ps
+abbrev pub Parses : List Symbol → List Piece → Found → Type 0
+Parses begin ps (found.Done values) = IsReading begin ps (reverse values.items)
+Parses begin ps (found.Fault i c) = IsFirst begin ps i c
+Parses begin ps found.CutShort = IsCutShort begin ps
 
 -- With the token taken, the same tokens go on as before with it in front.
 pub record Takes (p : Piece) (symbols : List Symbol) (state : State) (symbols' : List Symbol) (state' : State) : Type 0 where
@@ -35,7 +37,7 @@ NeverTakes p symbols state = (aim : Aim) (ps : List Piece) → Goes choices aim 
 -- The token is no fault, and is taken.
 pub record Meets (p : Piece) (symbols : List Symbol) (state : State) (symbols' : List Symbol) (state' : State) : Type 0 where
   pub named : p.kind ≢ kind.LeftOut
-  pub shallow : state.depth ≤ depth_limit p.kind
+  pub shallow : least symbols state.depth ≤ depth_limit p.kind
   pub takes : Takes p symbols state symbols' state'
   pub few : state'.operators ≤ operator_limit
 
@@ -44,10 +46,9 @@ abbrev pub Misses : Piece → List Symbol → State → ReadCause → Type 0
 Misses p symbols state (cause.LeftOut word) = (p.kind ≡ kind.LeftOut) × (word ≡ text_of (word_in (p.value ∷ [])).kind)
 Misses p symbols state cause.TooDeep =
     (p.kind ≢ kind.LeftOut)
-    × ((depth_limit p.kind < state.depth)
-    ⊎ ((state.depth ≤ depth_limit p.kind)
-    × ((symbols' : List Symbol) × ((state' : State) × (Takes p symbols state symbols' state' × (operator_limit < state'.operators))))))
-Misses p symbols state cause.Unexpected = (p.kind ≢ kind.LeftOut) × ((state.depth ≤ depth_limit p.kind) × NeverTakes p symbols state)
+    × ((depth_limit p.kind < least symbols state.depth)
+    ⊎ ((symbols' : List Symbol) × ((state' : State) × (Takes p symbols state symbols' state' × (operator_limit < state'.operators)))))
+Misses p symbols state cause.Unexpected = (p.kind ≢ kind.LeftOut) × ((least symbols state.depth ≤ depth_limit p.kind) × NeverTakes p symbols state)
 Misses p symbols state _ = ⊥
 
 pub record Finishes (symbols : List Symbol) (state state' : State) : Type 0 where
@@ -68,3 +69,4 @@ pub record FollowsAt (begin : List Symbol) (ps : List Piece) (i : ℕ) (symbols 
   pub follows : Follows begin (take i ps) symbols state
   pub sound : AreSound begin ps i
   pub few : state.operators ≤ operator_limit
+  pub room : state.depth ≤ i

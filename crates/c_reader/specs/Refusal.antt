@@ -1,11 +1,21 @@
--- What a refusal says of a file's tokens.
+-- What a refusal says.
 use Rattle.std.specs.Prelude.{ℕ, List}
 use Rattle.c_tree.specs.declared.token.Token.{Token}
-use Rattle.c_grammar.specs.Reading.{IsFirstFault}
-use Rattle.c_reader.specs.declared.refusal.ReadRefused.{ReadRefused}
-use Rattle.c_reader.specs.declared.refusal.ReadRefused.TheVariants as refused
+use Rattle.c_tokens.specs.declared.lexeme.Scan.{Scan}
+use Rattle.c_tokens.specs.declared.refused.ReadRefused.{ReadRefused}
+use Rattle.c_tokens.specs.declared.refused.ReadRefused.TheVariants as refused
+use Rattle.c_grammar.specs.Source.{IsFaultIn, IsFirstFault}
+use Rattle.c_grammar.specs.Front.{IsFaultAt}
 
--- it names the first fault of a file of so many bytes; want of memory may come at any time
-abbrev pub IsRefusal : List Token → ℕ → ReadRefused → Type 0
-IsRefusal ts len (refused.At at c) = IsFirstFault ts len at c
-IsRefusal ts len (refused.Memory e) = Unit {0}
+-- It names the first fault; want of memory may come at any time.
+abbrev pub IsRefusalIn : Scan → ℕ → ReadRefused → Type 0
+IsRefusalIn scan len (refused.At at c) = IsFaultIn scan len at c
+IsRefusalIn scan len (refused.Memory e) = Unit {0}
+
+abbrev pub IsRefusal : List ℕ → ReadRefused → Type 0
+IsRefusal bytes (refused.At at c) = IsFirstFault bytes at c
+IsRefusal bytes (refused.Memory e) = Unit {0}
+
+abbrev pub IsRefusalAt : List Token → ℕ → ReadRefused → Type 0
+IsRefusalAt ts from (refused.At at c) = IsFaultAt ts from at c
+IsRefusalAt ts from (refused.Memory e) = Unit {0}

@@ -3,6 +3,7 @@
 ghost use Rattle.std.specs.Prelude.{◌≡◌};
 ghost use Rattle.std.specs.Option.{option_copied};
 ghost use Rattle.c_reader.specs.Choices.{choices, first_kinds};
+ghost use Rattle.c_reader.specs.Follow.{vanishes_end};
 ghost use Rattle.c_reader.specs.Picks.{is_kind, begins, leads, is_empty, picks, predict};
 
 use crate::table::{alternatives_of, first_kinds_of};
@@ -46,6 +47,18 @@ fn takes_none(symbols: &[Symbol]) -> bool
         Symbol::Take(_, _) | Symbol::Expand(_) => false,
         Symbol::Unless(_) | Symbol::Act(_) => true,
     })
+}
+
+/// Whether a text of the rule may take nothing.
+pub fn may_vanish(rule: Rule) -> bool
+    ensures { result ≡ vanishes_end choices rule }
+{
+    for symbols in alternatives_of(rule) {
+        if takes_none(symbols) {
+            return true;
+        }
+    }
+    false
 }
 
 fn is_picked(rule: Rule, ahead: Option<Kind>, symbols: &[Symbol]) -> bool

@@ -1,17 +1,16 @@
 //! The machine: a stack of symbols to come, and a stack of values.
 
-ghost use Rattle.std.specs.Prelude.{◌≡◌, ◌++◌, ◌≤◌, ◌+◌, reverse, OnOk, IfOk, MatchBool, MatchOption, ◌↔◌, IsTrue};
+ghost use Rattle.std.specs.Prelude.{◌≡◌, ◌++◌, ◌≤◌, ◌<◌, ◌+◌, ◌^◌, reverse, OnOk, IfOk, MatchBool, MatchOption, ◌↔◌, IsTrue};
 ghost use Rattle.c_grammar.specs.Reading as spec;
 ghost use Rattle.c_grammar.specs.declared.kind.Kind.TheVariants as which;
 ghost use Rattle.c_reader.specs.Follow.{FitsReader};
 
-use crate::choose::{is_next, pick};
+use crate::choose::{is_next, may_vanish, pick};
 use crate::turn::Turn;
 use c_grammar::{
-    Kind, Mark, Symbol, Value, act, closes, copy_token, kind_of, operators_after, push_value,
-    text_of,
+    Kind, Mark, Readable, Symbol, Value, act, closes, operators_after, push_value, word_of,
 };
-use c_tree::{ReadCause, Token};
+use c_tree::ReadCause;
 use std::alloc::{AllocError, Global};
 
 #[derive(Drop)]
@@ -21,15 +20,15 @@ pub struct Machine {
     /// What was read, the newest last.
     pub values: Vec<Value>,
     /// How many constructs are open.
-    pub depth: u32,
+    pub depth: usize,
     /// How many operators the expression has so far.
-    pub operators: u32,
+    pub operators: usize,
 }
 
-const OPERATOR_LIMIT: u32 = 1000;
+const OPERATOR_LIMIT: usize = 1000;
 
 /// How many constructs may be open before a token of this kind.
-fn depth_limit(kind: Kind) -> u32
+fn depth_limit(kind: Kind) -> usize
     ensures { result ≡ spec.depth_limit kind }
 {
     match kind {
@@ -127,21 +126,51 @@ impl Machine {
 }
 
 impl Machine {
-    ghost use Rattle.std.specs.Prelude.{cond};
     ghost use Rattle.c_grammar.specs.Effects.{with_token};
-    ghost use Rattle.c_grammar.specs.declared.value.Value.TheVariants as value;
     ghost use Rattle.c_reader.specs.Stacks.{to_come, so_far};
+    ghost use Rattle.c_reader.specs.Depth.{least};
     ghost use Rattle.c_reader.specs.Outcome.{Meets, Misses, Finishes, NeverFinishes};
 
+    /// The least number of constructs that may be open before the next token.
+    fn least_depth(&self) -> usize
+        ensures { result ≡ least (to_come self.now) self.now.depth }
+    {
+        let symbols = self.symbols.as_slice();
+        let mut depth = self.depth;
+        let mut left = symbols.len();
+        while left > 0 {
+            left -= 1;
+            match symbols[left] {
+                Symbol::Take(_, _) => return depth,
+                Symbol::Unless(_) => {}
+                Symbol::Act(action) => depth = depth.saturating_sub(closes(action)),
+                Symbol::Expand(rule) => {
+                    if !may_vanish(rule) {
+                        return depth;
+                    }
+                }
+            }
+        }
+        depth
+    }
+
+    /// Whether the next token stands inside more constructs than so many.
+    #[tactic(auto, using(crate::proofs::Depths::least_below))]
+    fn is_deeper(&self, limit: usize) -> bool
+        ensures { IsTrue result ↔ (limit < least (to_come self.now) self.now.depth) }
+    {
+        self.depth > limit && self.least_depth() > limit
+    }
+
     /// Counts the token in, and keeps it where its mark says so.
-    fn keep(&mut self, mark: Mark, token: &Token) -> Result<(), AllocError>
-        requires shallow { self.old.depth ≤ 100 }
+    fn keep<T: Readable>(&mut self, mark: Mark, token: &T) -> Result<(), AllocError>
+        requires deep { self.old.depth + 1 < 2 ^ 64 }
         requires few { self.old.operators ≤ 1000 }
         ensures symbols { to_come self.new ≡ to_come self.old }
-        ensures state { OnOk result (so_far self.new ≡ with_token mark (value.Word token.now) (so_far self.old)) }
+        ensures state { OnOk result (so_far self.new ≡ with_token mark (T.piece token.now).value (so_far self.old)) }
     {
         if mark.keeps() {
-            push_value(&mut self.values, Value::Word(copy_token(token)?))?;
+            push_value(&mut self.values, token.value()?)?;
         }
         if mark.opens() {
             self.depth += 1;
@@ -153,16 +182,21 @@ impl Machine {
     }
 
     /// Takes the token, or says which fault it is.
-    pub fn meet(&mut self, alloc: Global, token: &Token) -> Result<Option<ReadCause>, AllocError>
+    pub fn meet<T: Readable>(
+        &mut self,
+        alloc: Global,
+        token: &T,
+    ) -> Result<Option<ReadCause>, AllocError>
         requires fits { FitsReader (to_come self.old) }
+        requires deep { self.old.depth + 1 < 2 ^ 64 }
         requires few { self.old.operators ≤ 1000 }
-        ensures { IfOk result (λ fault. MatchOption fault (Meets (spec.piece token.now) (to_come self.old) (so_far self.old) (to_come self.new) (so_far self.new)) (Misses (spec.piece token.now) (to_come self.old) (so_far self.old))) }
+        ensures { IfOk result (λ fault. MatchOption fault (Meets (T.piece token.now) (to_come self.old) (so_far self.old) (to_come self.new) (so_far self.new)) (Misses (T.piece token.now) (to_come self.old) (so_far self.old))) }
     {
-        let kind = kind_of(&token.kind);
+        let kind = token.kind();
         if is_left_out(kind) {
-            return Ok(Some(ReadCause::LeftOut(text_of(alloc, copy_token(token)?.kind))));
+            return Ok(Some(ReadCause::LeftOut(word_of(alloc, token.value()?))));
         }
-        if self.depth > depth_limit(kind) {
+        if self.is_deeper(depth_limit(kind)) {
             return Ok(Some(ReadCause::TooDeep));
         }
         match self.advance(alloc, Some(kind))? {

@@ -1,103 +1,152 @@
-use crate::read_tokens;
-use crate::refusal::ReadRefused;
-use c_tree::{ReadCause, Text, Token, TokenKind};
+//! The answers of the reader to small sources.
+
+use crate::{ReadRefused, read_program};
+use c_tree::ReadCause;
 use std::alloc::{AllocError, Global};
 use std::test::Fail;
 
-const SIGNS: [&str; 45] = [
-    "+", "-", "*", "/", "%", "<<", ">>", "<", "<=", ">", ">=", "==", "!=", "&", "^", "|", "&&",
-    "||", "!", "~", "=", "+=", "-=", "*=", "/=", "%=", "&=", "^=", "|=", "<<=", ">>=", "++", "--",
-    "->", "(", ")", "[", "]", "{", "}", ",", ";", ".", "?", ":",
-];
-
-fn kind_of(alloc: Global, word: &str) -> Result<TokenKind, AllocError> {
-    if let Some(place) = SIGNS.iter().position(|sign| *sign == word) {
-        return Ok(TokenKind::Punct(u8::try_from(place).unwrap_or(0)));
-    }
-    if let Ok(number) = word.parse::<i32>() {
-        return Ok(TokenKind::Number(number));
-    }
-    let text = Text::from_vec(word.as_bytes().to_vec(alloc)?);
-    Ok(if word.starts_with('"') {
-        TokenKind::Str(text)
-    } else {
-        TokenKind::Word(text)
-    })
-}
-
-/// The tokens between blanks, each at its number.
-fn tokens_of(alloc: Global, source: &str) -> Result<Vec<Token>, AllocError> {
-    let mut tokens = Vec::new(alloc);
-    let mut at = 0u32;
-    for word in source.split_ascii_whitespace() {
-        let kind = kind_of(alloc, word)?;
-        tokens.push(Token { kind, at, len: 1 })?;
-        at = at.saturating_add(1);
-    }
-    Ok(tokens)
-}
-
-/// What the reader answers: the number of statements, or the number of the token and the cause.
-fn answer(alloc: Global, source: &str) -> Result<String, AllocError> {
-    let tokens = tokens_of(alloc, source)?;
-    let len = u32::try_from(tokens.len()).unwrap_or(0);
-    match read_tokens(alloc, &tokens, len) {
-        Ok(program) => format!(in alloc; "{program:?}"),
-        Err(ReadRefused::At(at, ReadCause::LeftOut(word))) => {
-            format!(in alloc; "{at} left out {}", word.as_bytes().len())
+/// A fault as text.
+pub fn fault(alloc: Global, at: u32, cause: &ReadCause) -> Result<String, AllocError> {
+    let mut text = format!(in alloc; "{at} ")?;
+    match cause {
+        ReadCause::LeftOut(word) => {
+            text.push_str("left out ")?;
+            for byte in word.as_bytes() {
+                text.push(char::from(*byte))?;
+            }
         }
-        Err(ReadRefused::At(at, cause)) => format!(in alloc; "{at} {cause:?}"),
+        other => {
+            let name = format!(in alloc; "{other:?}")?;
+            text.push_str(name.as_str())?;
+        }
+    }
+    Ok(text)
+}
+
+/// What the reader says of a source: how many structs, globals, mutexes, defines and functions it has, or its first fault.
+pub fn answer(alloc: Global, source: &str) -> Result<String, AllocError> {
+    match read_program(alloc, source.as_bytes()) {
+        Ok(program) => {
+            let structs = program.structs.len();
+            let globals = program.globals.len();
+            let mutexes = program.mutexes.len();
+            let defines = program.defines.len();
+            let functions = program.functions.len();
+            format!(in alloc; "{structs} {globals} {mutexes} {defines} {functions}")
+        }
+        Err(ReadRefused::At(at, cause)) => fault(alloc, at, &cause),
         Err(ReadRefused::Memory(e)) => Err(e),
     }
 }
 
-/// The tree of the program in the test below; a name `x` is the byte 120.
-const TREE: &str = "Program { structs: Row { items: [] }, globals: Row { items: [] }, \
-    mutexes: Row { items: [] }, defines: Row { items: [] }, functions: Row { items: [\
-    Function { name: At { at: 1, it: Text { bytes: [109, 97, 105, 110] } }, ret: Int, \
-    params: Row { items: [] }, body: Some(Row { items: [\
-    Stmt { at: 7, kind: Declare(Int, Text { bytes: [120] }, None) }, \
-    Stmt { at: 9, kind: Assign(Expr { at: 9, kind: Name(Text { bytes: [120] }) }, None, \
-    Expr { at: 14, kind: Bin(Sub, \
-    Boxed { inner: Expr { at: 12, kind: Bin(Sub, \
-    Boxed { inner: Expr { at: 11, kind: Num(2) } }, \
-    Boxed { inner: Expr { at: 13, kind: Name(Text { bytes: [120] }) } }) } }, \
-    Boxed { inner: Expr { at: 16, kind: Bin(Mul, \
-    Boxed { inner: Expr { at: 15, kind: Num(1) } }, \
-    Boxed { inner: Expr { at: 19, kind: Bin(Add, \
-    Boxed { inner: Expr { at: 18, kind: Num(3) } }, \
-    Boxed { inner: Expr { at: 20, kind: Un(Neg, \
-    Boxed { inner: Expr { at: 21, kind: Num(4) } }) } }) } }) } }) }) }, \
-    Stmt { at: 24, kind: Return(Some(Expr { at: 25, kind: Name(Text { bytes: [120] }) })) }\
-    ] }) }] }, len: 28 }";
+const QUEUE: &str = r#"#include <stdio.h>
+#include <stdlib.h>
+#include <pthread.h>
+#define JOBS 20
+#define WORKERS 3
+struct job { int id; int cost; struct job *next; };
+struct job *queue; /* newest first */
+int done;
+int total;
+pthread_t pool[WORKERS];
+pthread_mutex_t queue_lock = PTHREAD_MUTEX_INITIALIZER;
+pthread_mutex_t total_lock = PTHREAD_MUTEX_INITIALIZER;
 
-#[test]
-fn reads_a_program(rt: HostRuntime) -> Result<(), Fail> {
-    let alloc = rt.alloc();
-    let tree = answer(
-        alloc,
-        "int main ( void ) { int x ; x = 2 - x - 1 * ( 3 + - 4 ) ; return x ; }",
-    )?;
-    assert_eq!(rt; tree.as_str(), TREE);
-    Ok(())
+void push(int id, int cost) {
+    struct job *j = malloc(sizeof(struct job));
+    j->id = id;
+    j->cost = cost;
+    pthread_mutex_lock(&queue_lock);
+    j->next = queue;
+    queue = j;
+    pthread_mutex_unlock(&queue_lock);
 }
+struct job *pop(void) {
+    struct job *j;
+    pthread_mutex_lock(&queue_lock);
+    j = queue;
+    if (j != NULL) queue = j->next;
+    pthread_mutex_unlock(&queue_lock);
+    return j;
+}
+int work(struct job *j) {
+    int sum = 0;
+    for (int i = 0; i < j->cost; i++) sum += j->id;
+    return sum;
+}
+void *worker(void *arg) {
+    struct job *j = pop();
+    while (j != NULL) {
+        int r = work(j);
+        pthread_mutex_lock(&total_lock);
+        total += r;
+        done++;
+        pthread_mutex_unlock(&total_lock);
+        free(j);
+        j = pop();
+    }
+    return NULL;
+}
+int main(void) {
+    for (int i = 1; i <= JOBS; i++) push(i, 10);
+    for (int i = 0; i < WORKERS; i++) pthread_create(&pool[i], NULL, worker, NULL);
+    for (int i = 0; i < WORKERS; i++) pthread_join(pool[i], NULL);
+    printf("jobs %d total %d\n", done, total);
+    return 0;
+}
+"#;
+
+/// Every form of a part of a file.
+const PARTS: &str = r#"# include <stdio.h> // blanks may stand between
+#define LEAST -0x1 /* and behind */
+static int first = LEAST;
+static struct s *second = NULL;
+pthread_t third[0x10];
+int fourth = EOF;
+int fifth = 'a';
+int sixth = -010;
+void *seventh;
+static pthread_mutex_t lock;
+int next(void);
+static void step(pthread_t t, void *rest, struct s *all);
+static struct s *last() { return NULL; }
+struct s { struct s *next; void *p; pthread_t t; };
+struct empty { };
+"#;
+
+/// Every form of a statement.
+const STATEMENTS: &str = r#"void f(void) {
+    int a, b = 1, c;
+    void *p = (void *)arg, *q;
+    pthread_t t;
+    struct s *r = (struct s *)p->next;
+    (r)->next->next = malloc(sizeof(struct s));
+    for (;;) { if (!a) break; else continue; }
+    for (a = ~-1; ; --a) ;
+    for (f(); a % 3 >= b; ++r->next) { int b; }
+    while (a) if (b) if (c) ; else ; else ;
+    f()->next = NULL;
+    5->next = 'x';
+    a[b] <<= 1;
+    getchar();
+    g(getchar(), a[b]);
+    printf("%d\t\"%d\"\n", a, b);
+    printf("none");
+    pthread_create(&r->next, NULL, f, (p));
+    pthread_join(t, NULL);
+    return;
+}
+"#;
 
 #[test]
-fn finds_the_first_fault(rt: HostRuntime) -> Result<(), Fail> {
+fn reads_each_part_of_a_source(rt: HostRuntime) -> Result<(), Fail> {
     let alloc = rt.alloc();
     for (source, want) in [
-        ("", "0 Unexpected"),
-        ("int main ( ) { }", "3 Unexpected"),
-        ("int main ( void ) { int a ; a = 1 ;", "13 Unexpected"),
-        ("int main ( void ) { a = 1 ; int b ; }", "10 Unexpected"),
-        ("int main ( void ) { a = 1 + ; }", "10 Unexpected"),
-        ("int main ( void ) { a = ( 1 ; }", "10 Unexpected"),
-        ("int main ( void ) { char c ; }", "6 left out 4"),
-        ("int main ( int char", "3 Unexpected"),
-        (
-            "int main ( void ) { printf ( \"x , 1 ) ; } }",
-            "14 Unexpected",
-        ),
+        ("", "0 0 0 0 0"),
+        (" // nothing", "0 0 0 0 0"),
+        (QUEUE, "1 4 2 2 5"),
+        (PARTS, "2 7 1 1 3"),
+        (STATEMENTS, "0 0 0 0 1"),
     ] {
         let got = answer(alloc, source)?;
         assert_eq!(rt; got.as_str(), want, "{source}");
@@ -105,43 +154,132 @@ fn finds_the_first_fault(rt: HostRuntime) -> Result<(), Fail> {
     Ok(())
 }
 
-/// A program with an expression of `count` times `before`, then `middle`, and so often `after`.
-fn nested(
-    alloc: Global,
-    before: &str,
-    middle: &str,
-    after: &str,
-    count: u32,
-) -> Result<String, AllocError> {
-    let mut source = String::from_str(alloc, "int main ( void ) { a = ")?;
-    for _ in 0..count {
-        source.push_str(before)?;
+#[test]
+fn finds_the_token_that_fits_nowhere(rt: HostRuntime) -> Result<(), Fail> {
+    let alloc = rt.alloc();
+    for (source, want) in [
+        ("void v;", "6 Unexpected"),
+        ("static struct s { int a; };", "16 Unexpected"),
+        ("int malloc;", "4 Unexpected"),
+        ("int a = -'x';", "9 Unexpected"),
+        ("int a = -X;", "9 Unexpected"),
+        ("int a[-1];", "6 Unexpected"),
+        ("int f(void, int a);", "10 Unexpected"),
+        ("int f(int a int b);", "12 Unexpected"),
+        ("int f(void){x=1;}}", "17 Unexpected"),
+        ("int f(void){", "12 Unexpected"),
+        ("int f(void){int a}", "17 Unexpected"),
+        ("int f(void){int*p;}", "15 Unexpected"),
+        ("int f(void){int a=1,*b;}", "20 Unexpected"),
+        ("int f(void){void p;}", "17 Unexpected"),
+        ("int f(void){struct s p;}", "21 Unexpected"),
+        ("int f(void){pthread_mutex_t m;}", "12 Unexpected"),
+        ("int f(void){else;}", "12 Unexpected"),
+        ("int f(void){if(a)int b;}", "17 Unexpected"),
+        ("int f(void){lock:;}", "16 Unexpected"),
+        ("int f(void){5;}", "13 Unexpected"),
+        ("int f(void){a+b;}", "13 Unexpected"),
+        ("int f(void){(x)=1;}", "15 Unexpected"),
+        ("int f(void){f()=1;}", "15 Unexpected"),
+        ("int f(void){a->b[0]=1;}", "16 Unexpected"),
+        ("int f(void){printf(a);}", "19 Unexpected"),
+        ("int f(void){a=- x y;}", "18 Unexpected"),
+        ("int f(void){x=a,b;}", "15 Unexpected"),
+        ("int f(void){x=a?b:c;}", "15 Unexpected"),
+        ("int f(void){x=&a;}", "14 Unexpected"),
+        ("int f(void){x=(int)a;}", "15 Unexpected"),
+        ("int f(void){x=(struct s)a;}", "23 Unexpected"),
+        ("int f(void){x=sizeof(struct s);}", "14 Unexpected"),
+        ("int f(void){a=1 + ;$}", "18 Unexpected"),
+        ("int f(void){a=1 $ ;}", "16 BadByte"),
+        ("int f(void){a=1 08;}", "16 BadToken"),
+        ("char c;", "0 left out char"),
+        ("int main(void) { char c; }", "17 left out char"),
+    ] {
+        let got = answer(alloc, source)?;
+        assert_eq!(rt; got.as_str(), want, "{source}");
     }
-    source.push_str(middle)?;
-    for _ in 0..count {
-        source.push_str(after)?;
-    }
-    source.push_str("; }")?;
-    answer(alloc, source.as_str())
+    Ok(())
 }
 
 #[test]
-fn keeps_the_limits(rt: HostRuntime) -> Result<(), Fail> {
+fn finds_faults_of_directives(rt: HostRuntime) -> Result<(), Fail> {
     let alloc = rt.alloc();
-    // The block's brace is open too.
-    let got = nested(alloc, "( ", "1 ", ") ", 100)?;
-    assert_eq!(rt; got.as_str(), "108 TooDeep");
-    let got = nested(alloc, "( ", "1 ", ") ", 99)?;
-    assert!(rt; got.starts_with("Program"));
-    let got = nested(alloc, "- ", "1 ", "", 100)?;
-    assert_eq!(rt; got.as_str(), "108 TooDeep");
-    let got = nested(alloc, "- ", "", "", 99)?;
-    assert_eq!(rt; got.as_str(), "107 Unexpected");
-    let got = nested(alloc, "- ", "", "", 100)?;
-    assert_eq!(rt; got.as_str(), "108 TooDeep");
-    let got = nested(alloc, "1 + ", "1 ", "", 1000)?;
-    assert!(rt; got.starts_with("Program"));
-    let got = nested(alloc, "1 + ", "1 ", "", 1001)?;
-    assert_eq!(rt; got.as_str(), "2009 TooDeep");
+    for (source, want) in [
+        ("#include <math.h>", "9 left out include"),
+        ("#include \"stdio.h\"", "9 left out include"),
+        ("#include < stdio.h>", "9 left out include"),
+        ("#include char", "9 left out include"),
+        ("#include", "8 left out include"),
+        ("#include @", "9 BadByte"),
+        ("#include \"x", "9 Unclosed"),
+        ("#include 09", "9 BadToken"),
+        ("#include <stdio.h> x", "19 Unexpected"),
+        ("# 5", "0 left out directive"),
+        ("#", "0 left out directive"),
+        (" #pragma x", "1 left out directive"),
+        ("# /* c */ define X 1", "0 left out directive"),
+        ("#define X", "9 Unexpected"),
+        ("#define X\nint x;", "9 Unexpected"),
+        ("#define X -", "11 Unexpected"),
+        ("#define X 1 2", "12 Unexpected"),
+        ("#define X (1)", "10 Unexpected"),
+        ("#define X 'a'", "10 Unexpected"),
+        ("#define X 2147483648", "10 Literal"),
+        ("#define int 1", "8 Unexpected"),
+        ("#define char 1", "8 left out char"),
+        ("#define X 1 char", "12 left out char"),
+        ("#define X /* c */ 1", "10 Unexpected"),
+        ("#define X 1 /* a */\nint y;", "0 1 0 1 0"),
+        ("#define X 1 /* a\n */ int y;", "21 Unexpected"),
+        ("/*\n#pragma\n*/int x;", "0 1 0 0 0"),
+        ("/* a */ #define X 1", "8 BadByte"),
+        ("/* a\n*/ #define X 1", "8 BadByte"),
+        ("int x; #define X 1", "7 BadByte"),
+        ("int f(void){\n#include <stdio.h>\n}", "13 Unexpected"),
+        ("int f(void){\n#include @\n}", "13 Unexpected"),
+        ("int f(void){\n#pragma x\n}", "13 left out directive"),
+    ] {
+        let got = answer(alloc, source)?;
+        assert_eq!(rt; got.as_str(), want, "{source}");
+    }
+    Ok(())
+}
+
+#[test]
+fn finds_faults_of_tokens(rt: HostRuntime) -> Result<(), Fail> {
+    let alloc = rt.alloc();
+    for (token, want) in [
+        ("2147483647", "0 1 0 0 0"),
+        ("2147483648", "8 Literal"),
+        ("99999999999999999999", "8 Literal"),
+        ("017777777777", "0 1 0 0 0"),
+        ("020000000000", "8 Literal"),
+        ("0x7fffFFFF", "0 1 0 0 0"),
+        ("0X80000000", "8 Literal"),
+        ("08", "8 BadToken"),
+        ("0x", "8 BadToken"),
+        ("0xg", "8 BadToken"),
+        ("99999999999x", "8 BadToken"),
+        ("'\"'", "0 1 0 0 0"),
+        ("'\\''", "0 1 0 0 0"),
+        ("'\\\\'", "0 1 0 0 0"),
+        ("''", "8 BadToken"),
+        ("'ab'", "8 BadToken"),
+        ("'\\0'", "8 BadToken"),
+        ("'\t'", "8 BadToken"),
+        ("'a", "8 Unclosed"),
+        ("'\\'", "8 Unclosed"),
+        ("\"a\n\"", "8 Unclosed"),
+        ("\"\\q\"", "8 BadToken"),
+        ("\"a\"", "8 Unexpected"),
+        ("/* b", "8 Unclosed"),
+        ("/*/", "8 Unclosed"),
+        ("#", "8 BadByte"),
+    ] {
+        let source = format!(in alloc; "int a = {token};")?;
+        let got = answer(alloc, source.as_str())?;
+        assert_eq!(rt; got.as_str(), want, "{token}");
+    }
     Ok(())
 }

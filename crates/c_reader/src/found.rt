@@ -5,7 +5,7 @@ use c_tree::ReadCause;
 
 /// What the machine found.
 #[derive(Drop)]
-pub enum Parse {
+pub enum Found {
     /// The tokens are a text, with these values, the newest last.
     Done(Vec<Value>),
     /// The token with this number is the first fault.

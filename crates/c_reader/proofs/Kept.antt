@@ -1,0 +1,68 @@
+-- A token is kept with the sort of its kind.
+use Rattle.std.proofs.Common.{◌≡◌, ℕ, zero, suc, List, [], ◌∷◌, Bool, true, false, refl, sym, ◌∙◌, ap}
+use Rattle.std.specs.Prelude.{◌&&◌, cond, unwrap_or, slice_get}
+use Rattle.std.specs.List.{list_all}
+use Rattle.std.specs.Str.{bytes_eq}
+use Rattle.c_tree.specs.declared.token.Token.{Token}
+use Rattle.c_tree.specs.declared.token.TokenKind.{TokenKind}
+use Rattle.c_tree.specs.declared.token.TokenKind.TheVariants as token
+use Rattle.c_tokens.specs.declared.lexeme.Lexeme.{Lexeme}
+use Rattle.c_tokens.specs.declared.lexeme.LexemeKind.{LexemeKind}
+use Rattle.c_tokens.specs.declared.lexeme.LexemeKind.TheVariants as lexeme
+use Rattle.c_grammar.specs.declared.kind.Kind.{Kind}
+use Rattle.c_grammar.specs.declared.kind.Kind.TheVariants as kind
+use Rattle.c_grammar.specs.Words.{Entry, words, signs}
+use Rattle.c_grammar.specs.Tokens.{kind_in, word_kind, sign_kind, kind_of}
+use Rattle.c_grammar.specs.Pieces.{token_piece, piece_of, lexeme_piece}
+use Rattle.c_reader.proofs.Choice.{both_left, both_right}
+use Rattle.c_reader.proofs.Sorts.{sort_of, kept_sort}
+use Rattle.c_reader.proofs.Sorts as sort
+
+-- kept as a token
+abbrev is_plain : Kind → Bool
+is_plain kind.Define = false
+is_plain k = true
+
+plain_kept : (k : Kind) → is_plain k ≡ true → sort.Word ≡ kept_sort k
+plain_kept kind.Define h = cc
+plain_kept k h = refl
+
+kind_in_plain : (entries : List Entry) (word : List ℕ) → list_all (λ entry. is_plain entry.kind) entries ≡ true → is_plain (kind_in entries word) ≡ true
+kind_in_plain [] word h = refl
+kind_in_plain (entry ∷ entries) word h = go (bytes_eq entry.text word) (kind_in_plain entries word (both_right _ _ h))
+  where
+    go : (b : Bool) → is_plain (kind_in entries word) ≡ true → is_plain (cond b entry.kind (kind_in entries word)) ≡ true
+    go true i = both_left _ _ h
+    go false i = i
+
+word_plain : (word : List ℕ) → is_plain (word_kind word) ≡ true
+unfolding word_kind words
+word_plain word = kind_in_plain words word refl
+
+get_plain : (kinds : List Kind) (n : ℕ) → list_all is_plain kinds ≡ true → is_plain (unwrap_or (slice_get kinds n) kind.Other) ≡ true
+get_plain [] n h = refl
+get_plain (k ∷ kinds) zero h = both_left _ _ h
+get_plain (k ∷ kinds) (suc n) h = get_plain kinds n (both_right _ _ h)
+
+sign_plain : (place : ℕ) → is_plain (sign_kind place) ≡ true
+unfolding signs
+sign_plain place = get_plain signs place refl
+
+kind_plain : (k : TokenKind) → is_plain (kind_of k) ≡ true
+kind_plain (token.Word word) = word_plain word
+kind_plain (token.Number number) = refl
+kind_plain (token.Char code) = refl
+kind_plain (token.Str text) = refl
+kind_plain (token.Punct place) = sign_plain place
+
+pub kept_token : (t : Token) → sort_of (token_piece t).value ≡ kept_sort (token_piece t).kind
+kept_token t = plain_kept (kind_of t.kind) (kind_plain t.kind)
+
+kept_kind : (k : LexemeKind) (at len : ℕ) → sort_of (piece_of k at len).value ≡ kept_sort (piece_of k at len).kind
+kept_kind (lexeme.Token k) at len = plain_kept (kind_of k) (kind_plain k)
+kept_kind lexeme.Include at len = refl
+kept_kind (lexeme.Define d) at len = refl
+kept_kind lexeme.Begun at len = refl
+
+pub kept_lexeme : (l : Lexeme) → sort_of (lexeme_piece l).value ≡ kept_sort (lexeme_piece l).kind
+kept_lexeme l = kept_kind l.kind l.at l.len
