@@ -1,0 +1,11 @@
+use Rattle.std.proofs.Common.{◌≡◌, ◌++◌, drop}
+use Rattle.std.specs.Prelude.{map}
+use Rattle.std.specs.List.{enumerate_from}
+use Rattle.c_tree.specs.Scope.{named}
+use Rattle.c_tree.specs.declared.scope.Meaning.TheVariants as m
+use Rattle.c_lift.proofs.declared.add_globals.Given as goal
+
+abbrev pub invariant-loop-i : goal.invariant-loop-i
+invariant-loop-i l =
+    l.names.items ++ map (λ x. named x.1.name (m.Global x.0)) (enumerate_from l.i (drop l.i l.globals))
+    ≡ l.initial.names.items ++ map (λ x. named x.1.name (m.Global x.0)) (enumerate_from 0 l.globals)

@@ -1,0 +1,41 @@
+-- What every lifting of a well-typed program keeps, item by item.
+use Rattle.std.specs.Prelude.{◌≡◌, None}
+use Rattle.c_tree.specs.declared.program.Program.{Program}
+use Rattle.c_tree.specs.Typing.{IsWellTyped}
+use Rattle.c_tree.specs.Lifting.{lift, lift_limit}
+use Rattle.c_tree.specs.Formed.{IsWithinLimits, HasDifferentNames, ParametersComeFirst, HasMain, PointersStartNull, LoopsAreKept, HasFittingPrints, HasDifferentSlots, HasSorts, IsFormed}
+use Rattle.c_lift.specs.ReadForm.{HasReadForm}
+
+-- where no function passes a limit, all counts keep theirs
+abbrev pub LiftsWithinLimits : Type 0
+LiftsWithinLimits = (p : Program) → IsWellTyped p → lift_limit p ≡ None → IsWithinLimits (lift p)
+
+abbrev pub LiftsToDifferentNames : Type 0
+LiftsToDifferentNames = (p : Program) → IsWellTyped p → HasDifferentNames (lift p)
+
+abbrev pub LiftsParametersFirst : Type 0
+LiftsParametersFirst = (p : Program) → ParametersComeFirst (lift p)
+
+abbrev pub LiftsToMain : Type 0
+LiftsToMain = (p : Program) → IsWellTyped p → HasMain (lift p)
+
+abbrev pub LiftsPointersToNull : Type 0
+LiftsPointersToNull = (p : Program) → IsWellTyped p → PointersStartNull (lift p)
+
+-- in a program that was read, as far as its form goes
+abbrev pub LiftsWithinLoops : Type 0
+LiftsWithinLoops = (p : Program) → IsWellTyped p → HasReadForm p → LoopsAreKept (lift p)
+
+abbrev pub LiftsToFittingPrints : Type 0
+LiftsToFittingPrints = (p : Program) → IsWellTyped p → HasReadForm p → HasFittingPrints (lift p)
+
+-- where no function passes a limit, the names of a function's slots are different
+abbrev pub LiftsToDifferentSlots : Type 0
+LiftsToDifferentSlots = (p : Program) → HasReadForm p → lift_limit p ≡ None → HasDifferentSlots (lift p)
+
+abbrev pub LiftsToSorts : Type 0
+LiftsToSorts = (p : Program) → IsWellTyped p → HasReadForm p → HasSorts (lift p)
+
+-- all of it at once
+abbrev pub LiftsToFormed : Type 0
+LiftsToFormed = (p : Program) → IsWellTyped p → HasReadForm p → lift_limit p ≡ None → IsFormed (lift p)

@@ -1,0 +1,10 @@
+pub mod Table
+pub mod Around
+pub mod Taking
+pub mod Adding
+pub mod Lifts
+pub mod Variables
+pub mod Places
+pub mod Refusal
+pub mod ReadForm
+pub mod Laws
