@@ -1,3 +1,5 @@
 pub mod SizeLemmas
 pub mod EnterLemmas
 pub mod LayLemmas
+pub mod FlowLemmas
+pub mod TallyLemmas

@@ -1,1 +1,3 @@
 pub mod Limit
+pub mod Laws
+pub mod Tally

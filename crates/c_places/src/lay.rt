@@ -40,7 +40,8 @@ fn lay_test(
     no: u32,
     out: &mut Vec<Place>,
 ) -> Result<(), AllocError>
-    ensures { OnOk result (out.new.items ≡ out.old.items ++ spec.place (act.Test test.now) (follow.Two yes no) ∷ []) }
+    ensures { OnOk result (out.new.items
+        ≡ out.old.items ++ spec.place (act.Test test.now) (follow.Two yes no) ∷ []) }
 {
     let copy = test.copy(alloc)?;
     push(out, Act::Test(copy), Follow::Two(yes, no))
@@ -59,7 +60,8 @@ fn lay_if(
     out: &mut Vec<Place>,
 ) -> Result<(), AllocError>
     requires { n + 1 + spec.size_of yes.now + spec.size_of no.now ≤ 10000 }
-    ensures { OnOk result (out.new.items ≡ out.old.items ++ spec.layout exits n next (stmt.If test.now yes.now no.now)) }
+    ensures { OnOk result (out.new.items
+        ≡ out.old.items ++ spec.layout exits n next (stmt.If test.now yes.now no.now)) }
 {
     let other = n + 1 + size_of(yes);
     let first = begin(exits, n + 1, next, yes);
@@ -83,8 +85,11 @@ fn lay_loop(
     step: &[LStmt],
     out: &mut Vec<Place>,
 ) -> Result<(), AllocError>
-    requires { n + spec.size_of calls.now + 1 + spec.size_of body.now + spec.size_of step.now + 1 ≤ 10000 }
-    ensures { OnOk result (out.new.items ≡ out.old.items ++ spec.layout exits n next (stmt.Loop calls.now test.now body.now step.now)) }
+    requires { n + spec.size_of calls.now + 1 + spec.size_of body.now + spec.size_of step.now + 1
+        ≤ 10000 }
+    ensures { OnOk result (out.new.items
+        ≡ out.old.items
+        ++ spec.layout exits n next (stmt.Loop calls.now test.now body.now step.now)) }
 {
     let test_at = n + size_of(calls);
     let step_at = test_at + 1 + size_of(body);

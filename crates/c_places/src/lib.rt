@@ -2,13 +2,21 @@
 //! each loop's end, and the implied return, with the place that follows each.
 //!
 //! The layers above rest on one contract: `places` gives the list of places by which the meaning
-//! of a program is defined.
+//! of a program is defined. What is asked of the places are methods of `Places`; `points_text`
+//! lists those that matter to an update.
 #![tactic(auto)]
 
 mod enter;
+mod laws;
 mod lay;
+mod points;
 mod size;
+#[cfg(test)]
+mod tests;
 
+pub use c_tree::place::MAX_PLACES;
 pub use c_tree::{Follow, PlaceKind, Places};
+pub use laws::{all_places_are_counted, flow_goes_on, kind_and_number_tell_a_place};
 pub use lay::places;
-pub use size::{MAX_PLACES, keeps_limit};
+pub use points::points_text;
+pub use size::keeps_limit;

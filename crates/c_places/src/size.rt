@@ -4,10 +4,8 @@ ghost use Rattle.std.specs.Prelude.{◌≡◌, ◌≤◌, ◌+◌, ◌↔◌, mi
 ghost use Rattle.c_tree.specs.Layout as spec;
 ghost use Rattle.c_places.specs.Limit.{KeepsLimit, IsWithin};
 
+use c_tree::place::MAX_PLACES;
 use c_tree::{LFunction, LStmt, Lifted};
-
-/// The most places that a function may have.
-pub const MAX_PLACES: u32 = 10_000;
 
 /// One more than any number of places that is told apart.
 const MANY: u32 = MAX_PLACES + 1;
