@@ -1,39 +1,74 @@
-//! The lines that a call tells `err`, one function a line.
+//! The lines that a call tells `err` or prints itself, one function a line.
 
 ghost use Rattle.std.specs.Prelude.{◌≡◌, IfOk, string_bytes};
 ghost use Rattle.upstare_cmd.specs.Line as spec;
 
-use c_tree::{End, Trap};
+use crate::cause::source_cause;
+use c_tree::{End, SourceCause, Text, Trap};
 use std::alloc::{AllocError, Global};
 
 /// The line of want of memory, which is told without taking any.
 pub const MEMORY: &[u8] = b"memory\n";
 
-pub fn usage(alloc: Global) -> Result<String, AllocError>
-    ensures { IfOk result (λ line. string_bytes line ≡ spec.usage) }
+/// The bytes of a line.
+fn bytes_of(line: String) -> Text
+    ensures { result ≡ string_bytes line }
 {
-    String::from_str(alloc, "usage\n")
+    Text::from_vec(line.into_bytes())
 }
 
-pub fn cannot_read(alloc: Global, name: &str) -> Result<String, AllocError>
-    ensures { IfOk result (λ line. string_bytes line ≡ spec.cannot_read name.now) }
+pub fn usage(alloc: Global) -> Result<Text, AllocError>
+    ensures { IfOk result (λ line. line ≡ spec.usage) }
 {
-    format!(in alloc; "cannot read {name}\n")
+    Ok(bytes_of(String::from_str(alloc, "usage\n")?))
 }
 
-pub fn cannot_write(alloc: Global, name: &str) -> Result<String, AllocError>
-    ensures { IfOk result (λ line. string_bytes line ≡ spec.cannot_write name.now) }
+pub fn cannot_read(alloc: Global, name: &str) -> Result<Text, AllocError>
+    ensures { IfOk result (λ line. line ≡ spec.cannot_read name.now) }
 {
-    format!(in alloc; "cannot write {name}\n")
+    Ok(bytes_of(format!(in alloc; "cannot read {name}\n")?))
 }
 
-/// A source of a form that doesn't run yet.
-pub fn not_yet(alloc: Global, name: &str) -> Result<String, AllocError>
-    ensures { IfOk result (λ line. string_bytes line ≡ spec.not_yet name.now) }
+pub fn cannot_write(alloc: Global, name: &str) -> Result<Text, AllocError>
+    ensures { IfOk result (λ line. line ≡ spec.cannot_write name.now) }
 {
-    format!(in alloc; "source {name} at 0: not yet\n")
+    Ok(bytes_of(format!(in alloc; "cannot write {name}\n")?))
 }
 
+/// Where a source is refused, `at` bytes from its start.
+fn place_of(alloc: Global, name: &str, at: u32) -> Result<String, AllocError>
+    ensures { IfOk result (λ line. string_bytes line ≡ spec.place_of name.now at) }
+{
+    format!(in alloc; "source {name} at {at}: ")
+}
+
+/// A source that is refused, `at` bytes from its start.
+pub fn refused(alloc: Global, name: &str, at: u32, why: &SourceCause) -> Result<Text, AllocError>
+    ensures { IfOk result (λ line. line ≡ spec.refused name.now at why.now) }
+{
+    let mut line = bytes_of(place_of(alloc, name, at)?);
+    source_cause(&mut line, why)?;
+    line.append(b"\n")?;
+    Ok(line)
+}
+
+/// How much an accepted program has of each kind.
+pub fn counts(
+    alloc: Global,
+    functions: usize,
+    structs: usize,
+    globals: usize,
+    mutexes: usize,
+) -> Result<Text, AllocError>
+    ensures { IfOk result (λ line. line ≡ spec.counts functions structs globals mutexes) }
+{
+    let line = format!(in alloc;
+        "ok functions {functions} structs {structs} globals {globals} mutexes {mutexes}\n"
+    )?;
+    Ok(bytes_of(line))
+}
+
+/// Why a run was stopped.
 fn cause(trap: Trap) -> &'static str
     ensures { result.now ≡ spec.cause trap }
 {
@@ -80,13 +115,14 @@ fn limit(alloc: Global, steps: u64) -> Result<String, AllocError>
 }
 
 /// The report of a run: its end, and its number of Steps.
-pub fn report(alloc: Global, end: End, steps: u64) -> Result<String, AllocError>
-    ensures { IfOk result (λ line. string_bytes line ≡ spec.report end steps) }
+pub fn report(alloc: Global, end: End, steps: u64) -> Result<Text, AllocError>
+    ensures { IfOk result (λ line. line ≡ spec.report end steps) }
 {
-    match end {
-        End::Finished(code) => exit(alloc, code, steps),
-        End::Trapped(thread, cause) => trap(alloc, thread, cause, steps),
-        End::Deadlock => deadlock(alloc, steps),
-        End::Limit => limit(alloc, steps),
-    }
+    let line = match end {
+        End::Finished(code) => exit(alloc, code, steps)?,
+        End::Trapped(thread, cause) => trap(alloc, thread, cause, steps)?,
+        End::Deadlock => deadlock(alloc, steps)?,
+        End::Limit => limit(alloc, steps)?,
+    };
+    Ok(bytes_of(line))
 }

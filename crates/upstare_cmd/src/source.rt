@@ -1,55 +1,91 @@
-//! Sources that are accepted.
+//! Sources: accepted as programs, or refused.
 
-ghost use Rattle.std.specs.Prelude.{◌≤◌, IfOk, MatchOption, length};
-ghost use Rattle.upstare_cmd.specs.Source.{IsAccepted, IsLiftedTo, IsRefused, IsTextOf};
+ghost use Rattle.std.specs.Prelude.{◌≡◌, IfOk, MatchResult};
+ghost use Rattle.c_grammar.specs.Source.{IsProgramOf};
+ghost use Rattle.c_places.specs.Limit.{KeepsLimit};
+ghost use Rattle.upstare_cmd.specs.Source.{IsAccepted};
+ghost use Rattle.upstare_cmd.specs.Views as view;
+ghost use Rattle.upstare_cmd.specs.Views.{IsRefusal};
 
-use crate::straight::straight;
-use c_places::keeps_limit;
-use c_reader::read_tokens;
-use c_tokens::tokens;
-use c_tree::{Lifted, Program};
+use crate::answer::Answer;
+use crate::reply::refused;
+use c_check::{CheckRefused, check};
+use c_lift::{LiftRefused, lift};
+use c_reader::read_program;
+use c_tokens::ReadRefused;
+use c_tree::{Checked, Lifted, SourceCause};
 use std::alloc::{AllocError, Global};
 
-/// The tree that a source is the text of, or None where it is the text of none.
-fn tree_of(alloc: Global, source: &[u8]) -> Result<Option<Program>, AllocError>
-    requires { length source.now ≤ 1048576 }
-    ensures { IfOk result (λ o. MatchOption o ((t : Program) → IsTextOf source.now t → ⊥) (IsTextOf source.now)) }
+/// Why a source gave no program.
+#[derive(Drop)]
+pub enum SourceRefused {
+    /// At an offset in bytes, for a cause.
+    At(u32, SourceCause),
+    Memory(AllocError),
+}
+
+/// A refusal of the reader, as one of the source.
+fn unread(why: ReadRefused) -> SourceRefused
+    ensures { result ≡ view.unread why }
 {
-    let tokens = match tokens(alloc, source) {
-        Ok(tokens) => tokens,
-        Err(c_tokens::ReadRefused::At(_, _)) => return Ok(None),
-        Err(c_tokens::ReadRefused::Memory(e)) => return Err(e),
+    match why {
+        ReadRefused::At(at, cause) => SourceRefused::At(at, SourceCause::Read(cause)),
+        ReadRefused::Memory(e) => SourceRefused::Memory(e),
+    }
+}
+
+/// A refusal of the checker, as one of the source.
+fn ill_typed(why: CheckRefused) -> SourceRefused
+    ensures { result ≡ view.ill_typed why }
+{
+    match why {
+        CheckRefused::At(at, cause) => SourceRefused::At(at, SourceCause::Check(cause)),
+        CheckRefused::Memory(e) => SourceRefused::Memory(e),
+    }
+}
+
+/// The well-typed tree that a source is the text of.
+fn checked(alloc: Global, source: &[u8]) -> Result<Checked, SourceRefused>
+    ensures { MatchResult result (λ c. IsProgramOf source.now c.program) (IsRefusal source.now) }
+{
+    let tree = match read_program(alloc, source) {
+        Ok(tree) => tree,
+        Err(why) => return Err(unread(why)),
     };
-    match read_tokens(alloc, tokens.as_slice(), source.len() as u32) {
-        Ok(tree) => Ok(Some(tree)),
-        Err(c_reader::ReadRefused::At(_, _)) => Ok(None),
-        Err(c_reader::ReadRefused::Memory(e)) => Err(e),
+    match check(alloc, tree) {
+        Ok(checked) => Ok(checked),
+        Err(why) => Err(ill_typed(why)),
     }
 }
 
-/// The program that a tree is lifted to, or None where it is of a form that doesn't run yet.
-fn program_of(alloc: Global, tree: &Program) -> Result<Option<Lifted>, AllocError>
-    ensures { IfOk result (λ o. MatchOption o ((p : Lifted) → IsLiftedTo tree.now p → ⊥) (IsLiftedTo tree.now)) }
+/// A refusal of the lifting, as one of the source.
+fn too_large(why: LiftRefused) -> SourceRefused
+    ensures { result ≡ view.too_large why }
 {
-    match straight(alloc, tree)? {
-        Some(program) => {
-            if keeps_limit(&program) {
-                Ok(Some(program))
-            } else {
-                Ok(None)
-            }
-        }
-        None => Ok(None),
+    match why {
+        LiftRefused::Limit(at, kind) => SourceRefused::At(at, SourceCause::Lift(kind)),
+        LiftRefused::Memory(e) => SourceRefused::Memory(e),
     }
 }
 
-/// The program that a source is accepted as, or None where it is refused.
-pub fn accepted(alloc: Global, source: &[u8]) -> Result<Option<Lifted>, AllocError>
-    requires { length source.now ≤ 1048576 }
-    ensures { IfOk result (λ o. MatchOption o (IsRefused source.now) (IsAccepted source.now)) }
+/// The program that a source is accepted as.
+pub fn accepted(alloc: Global, source: &[u8]) -> Result<Lifted, SourceRefused>
+    ensures verdict { MatchResult result (IsAccepted source.now) (IsRefusal source.now) }
+    ensures small { IfOk result KeepsLimit }
 {
-    match tree_of(alloc, source)? {
-        Some(tree) => program_of(alloc, &tree),
-        None => Ok(None),
+    let checked = checked(alloc, source)?;
+    match lift(alloc, &checked) {
+        Ok(program) => Ok(program),
+        Err(why) => Err(too_large(why)),
+    }
+}
+
+/// What is answered where a source gave no program.
+pub fn turned_down(alloc: Global, name: &str, why: SourceRefused) -> Result<Answer, AllocError>
+    ensures { IfOk result (λ a. view.TurnsDown name.now why (view.answer a)) }
+{
+    match why {
+        SourceRefused::At(at, why) => refused(alloc, name, at, &why),
+        SourceRefused::Memory(e) => Err(e),
     }
 }

@@ -1,0 +1,6 @@
+use Rattle.upstare_cmd.specs.Command as spec
+use Rattle.upstare_cmd.proofs.Refusing.{turned_down}
+use Rattle.upstare_cmd.proofs.run.run_meant.Goals as goal
+
+pub returns-in-Err : goal.returns-in-Err
+returns-in-Err c = turned_down _ _ (λ a p. spec.RunMeans p a) _ _ c.in-Err.ensures.verdict c.turned_down.ensures

@@ -1,0 +1,72 @@
+//! The words for which a source is refused.
+
+ghost use Rattle.std.specs.Prelude.{◌≡◌, ◌++◌, OnOk};
+ghost use Rattle.upstare_cmd.specs.Line as spec;
+
+use c_tree::{CheckCause, LimitKind, ReadCause, SourceCause, Text};
+use std::alloc::AllocError;
+
+fn read_cause(line: &mut Text, cause: &ReadCause) -> Result<(), AllocError>
+    ensures { OnOk result (line.new ≡ line.old ++ spec.read_cause cause.now) }
+{
+    match cause {
+        ReadCause::BadByte => line.append(b"bad byte"),
+        ReadCause::BadToken => line.append(b"bad token"),
+        ReadCause::Unclosed => line.append(b"unclosed"),
+        ReadCause::Unexpected => line.append(b"unexpected"),
+        ReadCause::LeftOut(word) => with_word(line, b"left out ", word),
+        ReadCause::TooDeep => line.append(b"too deep"),
+        ReadCause::TooLong => line.append(b"too long"),
+        ReadCause::Literal => line.append(b"literal"),
+    }
+}
+
+fn with_word(line: &mut Text, cause: &[u8], word: &Text) -> Result<(), AllocError>
+    ensures { OnOk result (line.new ≡ line.old ++ (cause.now ++ word.now)) }
+{
+    line.append(cause)?;
+    line.append(word.as_bytes())?;
+    Ok(())
+}
+
+fn limit(kind: LimitKind) -> &'static [u8]
+    ensures { result.now ≡ spec.limit kind }
+{
+    match kind {
+        LimitKind::Functions => b"limit functions 2000",
+        LimitKind::Locals => b"limit locals 64",
+        LimitKind::ArrayLength => b"limit array 65536",
+        LimitKind::GlobalWords => b"limit globals 1000000",
+        LimitKind::Places => b"limit places 10000",
+        LimitKind::Slots => b"limit slots 128",
+    }
+}
+
+fn check_cause(line: &mut Text, cause: &CheckCause) -> Result<(), AllocError>
+    ensures { OnOk result (line.new ≡ line.old ++ spec.check_cause cause.now) }
+{
+    match cause {
+        CheckCause::Unknown(name) => with_word(line, b"unknown ", name),
+        CheckCause::Twice(name) => with_word(line, b"twice ", name),
+        CheckCause::BadType => line.append(b"bad type"),
+        CheckCause::BadCall => line.append(b"bad call"),
+        CheckCause::NoMain => line.append(b"no main"),
+        CheckCause::BadMain => line.append(b"bad main"),
+        CheckCause::NotInLoop => line.append(b"not in loop"),
+        CheckCause::BadStart => line.append(b"bad start"),
+        CheckCause::BadInit => line.append(b"bad init"),
+        CheckCause::ReturnValue => line.append(b"return value"),
+        CheckCause::Limit(kind) => line.append(limit(*kind)),
+    }
+}
+
+/// Appends the words of a cause to a line.
+pub fn source_cause(line: &mut Text, cause: &SourceCause) -> Result<(), AllocError>
+    ensures { OnOk result (line.new ≡ line.old ++ spec.source_cause cause.now) }
+{
+    match cause {
+        SourceCause::Read(cause) => read_cause(line, cause),
+        SourceCause::Check(cause) => check_cause(line, cause),
+        SourceCause::Lift(kind) => line.append(limit(*kind)),
+    }
+}

@@ -1,0 +1,77 @@
+//! The answers of the commands.
+
+ghost use Rattle.std.specs.Prelude.{◌≡◌, IfOk};
+ghost use Rattle.upstare_cmd.specs.Command as spec;
+ghost use Rattle.upstare_cmd.specs.Views as view;
+
+use crate::answer::{Answer, Piece};
+use crate::line;
+use crate::run::RunEnd;
+use crate::status::{Status, status_of};
+use c_tree::{Row, SourceCause, Text};
+use std::alloc::{AllocError, Global};
+
+/// A line alone.
+fn says(alloc: Global, line: Text, status: Status) -> Answer
+    ensures { view.answer result ≡ spec.says line status }
+{
+    Answer {
+        pieces: Row::from_vec(Vec::new(alloc)),
+        line,
+        status,
+    }
+}
+
+/// A text for the output, and then a line.
+fn puts(alloc: Global, text: Text, line: Text, status: Status) -> Result<Answer, AllocError>
+    ensures { IfOk result (λ a. view.answer a ≡ spec.puts text line status) }
+{
+    let mut pieces = Vec::new(alloc);
+    pieces.push(Piece::Out(text))?;
+    Ok(Answer {
+        pieces: Row::from_vec(pieces),
+        line,
+        status,
+    })
+}
+
+/// A text alone.
+pub fn prints(alloc: Global, text: Text) -> Result<Answer, AllocError>
+    ensures { IfOk result (λ a. view.answer a ≡ spec.prints text) }
+{
+    let line = Text::from_vec(Vec::new(alloc));
+    puts(alloc, text, line, Status::Done)
+}
+
+/// The words ask for nothing that there is.
+pub fn usage(alloc: Global) -> Result<Answer, AllocError>
+    ensures { IfOk result (λ a. view.answer a ≡ spec.usage) }
+{
+    Ok(says(alloc, line::usage(alloc)?, Status::Usage))
+}
+
+/// A file could not be read.
+pub fn cannot_read(alloc: Global, name: &str) -> Result<Answer, AllocError>
+    ensures { IfOk result (λ a. view.answer a ≡ spec.cannot_read name.now) }
+{
+    Ok(says(alloc, line::cannot_read(alloc, name)?, Status::ReadFault))
+}
+
+/// A source is refused, `at` bytes from its start.
+pub fn refused(alloc: Global, name: &str, at: u32, why: &SourceCause) -> Result<Answer, AllocError>
+    ensures { IfOk result (λ a. view.answer a ≡ spec.refused name.now at why.now) }
+{
+    Ok(says(
+        alloc,
+        line::refused(alloc, name, at, why)?,
+        Status::SourceRefused,
+    ))
+}
+
+/// What a run printed, and its report.
+pub fn ran(alloc: Global, run: RunEnd) -> Result<Answer, AllocError>
+    ensures { IfOk result (λ a. view.answer a ≡ spec.ran run.output run.steps run.end) }
+{
+    let line = line::report(alloc, run.end, run.steps)?;
+    puts(alloc, run.output, line, status_of(run.end))
+}
