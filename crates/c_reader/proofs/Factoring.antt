@@ -1,4 +1,4 @@
--- The reader's grammar and the grammar on paper let the same tokens go on.
+-- The grammar as it is defined and the grammar that the reader goes by let the same tokens go on.
 use Rattle.std.proofs.Common.{true, false, ◌≡◌, List, [], ◌∷◌, ◌++◌, ◌⊎◌, inl, inr, refl, sym, ◌∙◌, ap, subst, append_assoc}
 use Rattle.c_grammar.specs.declared.kind.Kind.TheVariants as kind
 use Rattle.c_grammar.specs.declared.rule.Rule.{Rule}
@@ -55,7 +55,7 @@ module _ {h : Rule → List (List Symbol)} {old new : List Symbol}
   behind : (front : List Symbol) {aim : Aim} {state : State} {ps : List Piece} → Goes h aim (front ++ old) state ps → Goes h aim (front ++ new) state ps
   behind front {aim} {state} {ps} g = elim (behind_either {h = h} {old = old} {one = new} {other = new} (λ aim state ps d. inl (f aim state ps d)) front g refl) [ inl d ↦ d | inr d ↦ d ]
 
--- From the paper's grammar to the reader's.
+-- From the defined grammar to the reader's.
 
 arrows_place : {K : List Symbol} (aim : Aim) (state : State) (ps : List Piece) → Goes choices aim (Expand rule.Arrows ∷ Expand rule.AssignTail ∷ K) state ps → Goes choices aim (Expand rule.AfterPlace ∷ K) state ps
 arrows_place {K} aim state ps (stop ok) = (stop ok)
@@ -162,7 +162,7 @@ to_unary {K} aim state ps (later first) (take_token e g) = expand (later first) 
 to_unary {K} aim state ps (later (later first)) g = postfix_unary aim state ps g
 to_unary {K} aim state ps (later (later (later m))) g = elim m [ ]
 
--- From the reader's grammar to the paper's.
+-- From the reader's grammar to the defined one.
 
 tail_arrows : {K : List Symbol} (aim : Aim) (state : State) (ps : List Piece) → Goes alternatives aim (Expand rule.FieldTail ∷ K) state ps → Goes alternatives aim (Expand rule.Arrows ∷ Take kind.Arrow Count ∷ Take kind.Name Keep ∷ Act action.Field ∷ Expand rule.AssignTail ∷ K) state ps
 tail_arrows {K} aim state ps (stop ok) = (stop ok)
