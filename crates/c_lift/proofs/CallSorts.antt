@@ -37,7 +37,7 @@ use Rattle.c_tree.specs.Types.{is_int, is_thread, is_pointer, is_any_pointer, ty
 use Rattle.c_tree.specs.Typing.{faults, argument_faults, length_of, ask, asks, asks_fit, test_for, anything, operand_test, name_faults, is_nothing, field_faults, lvalue_faults, call_faults, start_faults, lock_faults, parameters, takes_any_pointer, type_faults}
 use Rattle.c_tree.specs.Lifting.{Spot, Taken, take_calls, take_arguments, joined, deciding, truth, goes_on, temporaries, is_lazy, has_call, beside, in_place, is_equality, is_pointer_type, fitted, named, literal_of, array_number, field_in, mutex_number, destination, function_number, struct_number, field_number}
 use Rattle.c_tree.specs.Formed.{Sort, int, thread, pointer, sort_of_type, sort_of_slot, sort_of_scalar, sort_of_element, fields_in, is_int_sort, is_pointer_sort, is_testable_sort, takes_one, takes_two, sort_if, sort_of, sort_at, HasSort, AreArguments, parameters_of, TakesResult, IsCall, HasStartForm, IsReturn, HasSortsIn, HaveSortsIn}
-use Rattle.c_lift.specs.ReadForm.{IsReadExpr, AreReadExprs, IsPlace, IsCastType}
+use Rattle.c_tree.specs.ReadForm.{IsReadExpr, AreReadExprs, IsPlace, IsCastType}
 use Rattle.c_lift.proofs.LimitLemmas.{both_true}
 use Rattle.c_lift.proofs.NoFaults.{no_left, no_right, passes}
 use Rattle.c_lift.proofs.ValueSorts.{NotVoid, not_void, passed, int_sort, thread_sort, pointer_sort, testable_sort, has_sort, un_takes, side_of, bin_takes, lazy_takes, fitted_sort, sort-Num, sort-Null, sort-Slot, sort-Global, sort-Elem, sort-Field, sort-Un, sort-Bin, sort-literal}

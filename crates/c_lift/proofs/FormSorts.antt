@@ -33,7 +33,7 @@ use Rattle.c_tree.specs.Types.{scalar_type, array_type, member_type, type_of_fie
 use Rattle.c_tree.specs.Typing.{IsWellTyped, Stand, definitions, function_faults, body_faults, parameter_faults, type_faults, has_no_parameters}
 use Rattle.c_tree.specs.Lifting.{Spot, lift, lift_all, lift_function, lift_global, lift_struct, array_length, slots_from, temporary_slots, variables_of, body_of, struct_number, field_number, function_number, number_of, fields_of}
 use Rattle.c_tree.specs.Formed.{sort_of_type, sort_of_slot, sort_of_scalar, sort_of_element, fields_in, parameters_of, HasSorts}
-use Rattle.c_lift.specs.ReadForm.{HasReadForm, IsReadFunction, AreReadStmts}
+use Rattle.c_tree.specs.ReadForm.{HasReadForm, IsReadFunction, AreReadStmts}
 use Rattle.c_lift.proofs.NoFaults.{Parts, parts, no_right}
 use Rattle.c_lift.proofs.ApartLemmas.{Apart, each_weaker, each_filter}
 use Rattle.c_lift.proofs.NamesLemmas.{types, GoesWith, functions_agree}

@@ -34,7 +34,7 @@ use Rattle.c_tree.specs.Typing.{IsWellTyped, Stand, directives, is_count, stmt_f
 use Rattle.c_tree.specs.Lifting.{Spot, Taken, Lift, take_calls, take_arguments, joined, deciding, truth, goes_on, temporaries, is_lazy, has_call, assigned, store_bare, store, bare, destination, call_into, run, start_value, assign, give_back, freed, printed, take_all, take_test, lift_stmt, lift_all, lift_else, at_scope, body_of, variables_of, lift_function, lift}
 use Rattle.c_tree.specs.Formed.{StaysInLoop, StayInLoop, PrintFits, PrintsFit, LoopsAreKept, HasFittingPrints}
 use Rattle.c_lift.specs.Taking.{take_list}
-use Rattle.c_lift.specs.ReadForm.{HasReadForm, IsReadFunction, IsSimple, IsReadStmt, AreReadStmts, IsReadElse, IsReadStep}
+use Rattle.c_tree.specs.ReadForm.{HasReadForm, IsReadFunction, IsSimple, IsReadStmt, AreReadStmts, IsReadElse, IsReadStep}
 use Rattle.c_lift.proofs.TakeLemmas.{list-more, list-none}
 use Rattle.c_lift.proofs.NoFaults.{parts, no_left, no_right, passes}
 use Rattle.c_lift.proofs.ApartLemmas.{each_filter, each_weaker}

@@ -22,7 +22,7 @@ use Rattle.c_tree.specs.Scope.{Variable, is_same_name, file_scope, with_paramete
 use Rattle.c_tree.specs.Typing.{definitions}
 use Rattle.c_tree.specs.Lifting.{Spot, slot_name, slots_from, temporary_slots, body_of, variables_of, lift_function, lift, lift_all, lift_limit}
 use Rattle.c_tree.specs.Formed.{AreDifferent, HasDifferentSlots}
-use Rattle.c_lift.specs.ReadForm.{HasReadForm, IsName, is_name, is_name_byte, IsReadStmt, AreReadStmts, IsReadElse, IsReadField, IsReadFunction}
+use Rattle.c_tree.specs.ReadForm.{HasReadForm, IsName, is_name, is_name_byte, IsReadStmt, AreReadStmts, IsReadElse, IsReadField, IsReadFunction}
 use Rattle.c_lift.proofs.LimitLemmas.{both_true, none_passed, each_within, each_second}
 use Rattle.c_lift.proofs.ApartLemmas.{Apart, each_weaker, each_filter, distinct}
 use Rattle.c_lift.proofs.FormedLemmas.{all-map}

@@ -4,7 +4,7 @@ use Rattle.c_tree.specs.declared.program.Program.{Program}
 use Rattle.c_tree.specs.Typing.{IsWellTyped}
 use Rattle.c_tree.specs.Lifting.{lift, lift_limit}
 use Rattle.c_tree.specs.Formed.{IsWithinLimits, HasDifferentNames, ParametersComeFirst, HasMain, PointersStartNull, LoopsAreKept, HasFittingPrints, HasDifferentSlots, HasSorts, IsFormed}
-use Rattle.c_lift.specs.ReadForm.{HasReadForm}
+use Rattle.c_tree.specs.ReadForm.{HasReadForm}
 
 -- where no function passes a limit, all counts keep theirs
 abbrev pub LiftsWithinLimits : Type 0

@@ -6,5 +6,4 @@ pub mod Lifts
 pub mod Variables
 pub mod Places
 pub mod Refusal
-pub mod ReadForm
 pub mod Laws

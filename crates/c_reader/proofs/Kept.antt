@@ -1,6 +1,6 @@
 -- A token is kept with the sort of its kind.
-use Rattle.std.proofs.Common.{◌≡◌, ℕ, zero, suc, List, [], ◌∷◌, Bool, true, false, refl, sym, ◌∙◌, ap}
-use Rattle.std.specs.Prelude.{◌&&◌, cond, unwrap_or, slice_get}
+use Rattle.std.proofs.Common.{◌≡◌, ℕ, zero, suc, List, [], ◌∷◌, Bool, true, false, refl}
+use Rattle.std.specs.Prelude.{cond, unwrap_or, slice_get}
 use Rattle.std.specs.List.{list_all}
 use Rattle.std.specs.Str.{bytes_eq}
 use Rattle.c_tree.specs.declared.token.Token.{Token}
@@ -19,7 +19,7 @@ use Rattle.c_reader.proofs.Sorts.{sort_of, kept_sort}
 use Rattle.c_reader.proofs.Sorts as sort
 
 -- kept as a token
-abbrev is_plain : Kind → Bool
+abbrev pub is_plain : Kind → Bool
 is_plain kind.Define = false
 is_plain k = true
 
@@ -35,18 +35,27 @@ kind_in_plain (entry ∷ entries) word h = go (bytes_eq entry.text word) (kind_i
     go true i = both_left _ _ h
     go false i = i
 
-word_plain : (word : List ℕ) → is_plain (word_kind word) ≡ true
+pub word_plain : (word : List ℕ) → is_plain (word_kind word) ≡ true
 unfolding word_kind words
 word_plain word = kind_in_plain words word refl
 
-get_plain : (kinds : List Kind) (n : ℕ) → list_all is_plain kinds ≡ true → is_plain (unwrap_or (slice_get kinds n) kind.Other) ≡ true
-get_plain [] n h = refl
-get_plain (k ∷ kinds) zero h = both_left _ _ h
-get_plain (k ∷ kinds) (suc n) h = get_plain kinds n (both_right _ _ h)
+get_each : (test : Kind → Bool) (kinds : List Kind) (n : ℕ) → test kind.Other ≡ true → list_all test kinds ≡ true → test (unwrap_or (slice_get kinds n) kind.Other) ≡ true
+get_each test [] n o h = o
+get_each test (k ∷ kinds) zero o h = both_left _ _ h
+get_each test (k ∷ kinds) (suc n) o h = get_each test kinds n o (both_right (test k) _ h)
 
 sign_plain : (place : ℕ) → is_plain (sign_kind place) ≡ true
 unfolding signs
-sign_plain place = get_plain signs place refl
+sign_plain place = get_each is_plain signs place refl refl
+
+-- No sign is a name.
+abbrev pub is_nameless : Kind → Bool
+is_nameless kind.Name = false
+is_nameless k = is_plain k
+
+pub sign_nameless : (place : ℕ) → is_nameless (sign_kind place) ≡ true
+unfolding signs
+sign_nameless place = get_each is_nameless signs place refl refl
 
 kind_plain : (k : TokenKind) → is_plain (kind_of k) ≡ true
 kind_plain (token.Word word) = word_plain word

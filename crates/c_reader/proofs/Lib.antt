@@ -15,3 +15,12 @@ mod Sources
 mod Answered
 mod Fronts
 mod NearestElse
+mod Forms
+mod FormOrder
+mod FormRuns
+mod FormTables
+mod FormEffects
+mod FormReadings
+mod Names
+mod FormTokens
+mod Formed

@@ -4,6 +4,7 @@ pub use Rattle.c_grammar.specs.Front
 pub mod Refusal
 pub mod Answered
 pub mod Loose
+pub mod Formed
 -- What the inner functions promise each other.
 pub mod Choices
 pub mod Ranks

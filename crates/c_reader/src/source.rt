@@ -1,6 +1,7 @@
 //! Sources: from bytes to a program, or to the first fault.
 
-ghost use Rattle.std.specs.Prelude.{◌≡◌, MatchResult, map};
+ghost use Rattle.std.specs.Prelude.{◌≡◌, IfOk, MatchResult, map};
+ghost use Rattle.c_tree.specs.ReadForm.{HasReadForm};
 ghost use Rattle.c_tokens.specs.Source as text;
 ghost use Rattle.c_grammar.specs.Source.{IsProgramIn, IsProgramOf};
 ghost use Rattle.c_reader.specs.Refusal.{IsRefusal, IsRefusalIn};
@@ -47,9 +48,10 @@ fn read_scan(
 }
 
 /// Reads a source: the program that it is, or the offset and the cause of its first fault. A source of more than 1048576
-/// bytes is refused as too long at that offset.
+/// bytes is refused as too long at that offset. The program has the form that the laws of the lifting ask for.
 pub fn read_program(alloc: Global, bytes: &[u8]) -> Result<Program, ReadRefused>
-    ensures { MatchResult result (IsProgramOf bytes.now) (IsRefusal bytes.now) }
+    ensures answer { MatchResult result (IsProgramOf bytes.now) (IsRefusal bytes.now) }
+    ensures form { IfOk result HasReadForm }
 {
     if bytes.len() > SOURCE_LIMIT as usize {
         return Err(ReadRefused::At(SOURCE_LIMIT, ReadCause::TooLong));

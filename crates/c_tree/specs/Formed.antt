@@ -1,5 +1,5 @@
 -- What each lifting of a well-typed program keeps, and all that is done with one rests on.
-use Rattle.std.specs.Prelude.{◌≡◌, ℕ, ◌+◌, ◌<◌, ◌≤◌, ℤ, pos, Bool, true, false, ◌&&◌, is_none, is_some, IsTrue, if◌then◌else◌, ⊤, List, [], ◌∷◌, map, length, take, slice_get, sum, All, Option, Some, None}
+use Rattle.std.specs.Prelude.{◌≡◌, ℕ, ◌+◌, ◌<◌, ◌≤◌, pos, Bool, true, false, ◌&&◌, is_some, IsTrue, if◌then◌else◌, ⊤, List, [], ◌∷◌, map, length, take, slice_get, sum, All, Option, Some, None}
 use Rattle.std.specs.List.{AllZip, IsDistinct}
 use Rattle.c_tree.specs.declared.ty.Ty.{Ty}
 use Rattle.c_tree.specs.declared.ty.Ty.TheVariants as ty

@@ -4,6 +4,7 @@ ghost use Rattle.std.specs.Prelude.{◌≡◌, [], ◌∷◌, ◌-◌, map, leng
 ghost use Rattle.c_tree.specs.Start as spec;
 ghost use Rattle.c_tree.specs.Step as step;
 
+use crate::input::Input;
 use crate::lifted::{LGlobal, Lifted};
 use crate::row::Row;
 use crate::state::{Frame, Heap, State};
@@ -99,7 +100,7 @@ impl State {
             },
             mutexes: free(alloc, program.mutexes.len())?,
             threads: Row::from_vec(threads),
-            input: input.clone()?,
+            input: Input::of(input)?,
             output: Text::from_vec(Vec::new(alloc)),
         })
     }

@@ -3,7 +3,7 @@ use Rattle.c_tree.specs.declared.program.Program.{Program}
 use Rattle.c_tree.specs.Typing.{IsWellTyped}
 use Rattle.c_tree.specs.Lifting.{lift, lift_limit}
 use Rattle.c_tree.specs.Formed.{IsFormed}
-use Rattle.c_lift.specs.ReadForm.{HasReadForm}
+use Rattle.c_tree.specs.ReadForm.{HasReadForm}
 use Rattle.c_lift.proofs.FormedLemmas.{within_limits, different_names, params_come_first, has_main, pointers_start_null}
 use Rattle.c_lift.proofs.KeptLemmas.{loops_are_kept, prints_fit}
 use Rattle.c_lift.proofs.SlotLemmas.{slots_are_different}
