@@ -6,11 +6,11 @@ ghost use Rattle.c_tree.specs.Step as spec;
 ghost use Rattle.c_meaning.specs.Leads.{Leads};
 
 use crate::change::{go, write};
-use crate::print::printed;
 use crate::read::values_in;
 use crate::stepped::Stepped;
 use c_tree::{LExpr, Lifted, State, Trap};
 use std::alloc::{AllocError, Global};
+use store_mem::printed;
 
 pub fn print(
     alloc: Global,
@@ -42,7 +42,7 @@ pub fn getc(program: &Lifted, state: &mut State, t: u32, n: u32, slot: u32) -> S
     requires { IsTrue (spec.is_live state.old t) }
     ensures { Leads result state.old state.new (spec.got (spec.turn program.now t state.old) n slot state.old.input) }
 {
-    match state.input.take_first() {
+    match state.input.next_byte() {
         Some(c) => go(state, t, n, Some(slot), c as i32),
         None => go(state, t, n, Some(slot), -1),
     }
