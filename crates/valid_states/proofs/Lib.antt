@@ -1,0 +1,10 @@
+pub mod Zips
+pub mod Refers
+pub mod Values
+pub mod Frames
+pub mod Stacks
+pub mod Places
+pub mod States
+pub mod First
+pub mod Steps
+pub mod Runs

@@ -1,0 +1,20 @@
+//! What holds of every state of a run.
+
+ghost use Rattle.valid_states.specs.Laws.{StartIsValid, StepsStayValid, RunsStayValid, RunsStayValidUntilUpdate};
+
+/// A formed program starts in a valid state.
+pub fn first_state_is_valid()
+    ensures { StartIsValid }
+{}
+
+/// A step of a formed program leads from a valid state to a valid one.
+pub fn steps_stay_valid()
+    ensures { StepsStayValid }
+{}
+
+/// Each state that a run of a formed program comes to is valid: all of them where no update is
+/// armed, and else those before the update. A step that traps or ends the program leaves the state.
+pub fn runs_stay_valid()
+    ensures unarmed { RunsStayValid }
+    ensures until_update { RunsStayValidUntilUpdate }
+{}
