@@ -1,2 +1,5 @@
 pub mod FindLemmas
+pub mod FilterLemmas
 pub mod OnWayLemmas
+pub mod ListLemmas
+pub mod OnePlan

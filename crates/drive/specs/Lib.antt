@@ -1,1 +1,6 @@
+-- what the public contracts rest on
+pub mod Driven
+pub mod Laws
+-- what the inner functions promise each other
+pub mod Listed
 pub mod OnWay

@@ -1,20 +1,15 @@
 //! The thread of the next Step.
 
-ghost use Rattle.std.specs.Prelude.{◌≡◌, ◌<◌, IfSome, IsTrue, None, nat_le, ◌&&◌, true};
+ghost use Rattle.std.specs.Prelude.{◌≡◌, ◌<◌, IfSome, IsTrue, None};
 ghost use Rattle.c_tree.specs.Plan as plan;
+ghost use Rattle.c_tree.specs.declared.event.EventKind.TheVariants as e;
 ghost use Rattle.c_tree.specs.declared.run.Picker.TheVariants as picker;
-ghost use Rattle.c_tree.specs.Run.{may_step};
 ghost use Rattle.world_core.specs.History.{core, over, may_turn};
+ghost use Rattle.drive.specs.OnWay.{IsLow};
 
+use crate::seed::{by_seed, drawn};
+use c_tree::Picker;
 use world_core::World;
-
-fn fits(world: &World, from: u32, t: u32) -> bool
-    requires { over world.now ≡ None }
-    ensures value { result ≡ (nat_le from t && may_step world.now.settings (core world.now) t) }
-    ensures may { result ≡ true → IsTrue (may_turn world.now t) }
-{
-    from <= t && world.may_turn(t)
-}
 
 /// The lowest thread from a number on that may make a Step.
 pub fn lowest_from(world: &World, from: u32) -> Option<u32>
@@ -24,14 +19,16 @@ pub fn lowest_from(world: &World, from: u32) -> Option<u32>
     ensures small { IfSome result (λ t. t < 1000) }
 {
     let n = world.threads();
-    for t in 0..n {
-        if fits(world, from, t) {
+    let first = from.min(n);
+    for t in first..n {
+        if world.may_step(t) {
             return Some(t);
         }
     }
     None
 }
 
+/// The number above the last thread's.
 fn above(last: Option<u32>) -> u32
     requires { IfSome last (λ t. t < 1000) }
     ensures { result ≡ plan.above last }
@@ -42,7 +39,7 @@ fn above(last: Option<u32>) -> u32
     }
 }
 
-/// The thread that `Round` takes after the thread of the last Step.
+/// The lowest thread above the last that may make a Step, or else the lowest of all.
 pub fn by_round(world: &World, last: Option<u32>) -> Option<u32>
     requires going { over world.now ≡ None }
     requires low { IfSome last (λ t. t < 1000) }
@@ -54,4 +51,28 @@ pub fn by_round(world: &World, last: Option<u32>) -> Option<u32>
         return Some(t);
     }
     lowest_from(world, 0)
+}
+
+/// The thread that the picker takes, where any may make a Step.
+pub fn pick(world: &World, picker: Picker) -> Option<u32>
+    requires going { over world.now ≡ None }
+    requires low { IsLow picker }
+    ensures value { result ≡ plan.picked world.now.settings (core world.now) picker }
+    ensures may { IfSome result (λ t. IsTrue (may_turn world.now t)) }
+    ensures low { IfSome result (λ t. t < 1000) }
+{
+    match picker {
+        Picker::Round(last) => by_round(world, last),
+        Picker::Seed(x) => by_seed(world, x),
+    }
+}
+
+/// How the picker goes on after a Step.
+pub fn after_step(picker: Picker, t: u32) -> Picker
+    ensures { result ≡ plan.picker_after picker (e.Step t) }
+{
+    match picker {
+        Picker::Round(_) => Picker::Round(Some(t)),
+        Picker::Seed(x) => Picker::Seed(drawn(x)),
+    }
 }

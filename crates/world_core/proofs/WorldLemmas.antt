@@ -8,7 +8,7 @@ use Rattle.c_tree.specs.declared.event.EventKind.TheVariants as e
 use Rattle.c_tree.specs.declared.lifted.Lifted.{Lifted}
 use Rattle.c_tree.specs.declared.run.End.{End}
 use Rattle.c_tree.specs.declared.run.Settings.{Settings}
-use Rattle.c_tree.specs.Able.{able}
+use Rattle.c_tree.specs.Able.{able, standing}
 use Rattle.c_tree.specs.Layout.{places}
 use Rattle.c_tree.specs.Run as r
 use Rattle.c_tree.specs.Step.{Outcome, Done, Trapped, Finished, Blocked, step}
@@ -44,6 +44,14 @@ pub step_told : (w : Inside) (h : History) (p : Lifted) (t : ℕ) → history_of
 step_told w h p t v s e =
     ap (λ q. r.may_step w.settings (core_at q w.here) t) e
     ∙ (ap (λ c. r.may_step w.settings c t) (sym (core_inside w s)) ∙ ap (λ g. r.may_step g.settings (core g) t) v)
+
+pub able_told : (w : Inside) (h : History) (p : Lifted) (t : ℕ) → history_of w ≡ h → IsSound w → p ≡ program_of w
+    → able p w.here.state t ≡ able (core h).program (core h).state t
+able_told w h p t v s e = ap (λ q. able q w.here.state t) e ∙ ap (λ c. able c.program c.state t) (sym (told w h v s))
+
+pub standing_told : (w : Inside) (h : History) (p : Lifted) (t : ℕ) → history_of w ≡ h → IsSound w → p ≡ program_of w
+    → standing p w.here.state t ≡ standing (core h).program (core h).state t
+standing_told w h p t v s e = ap (λ q. standing q w.here.state t) e ∙ ap (λ c. standing c.program c.state t) (sym (told w h v s))
 
 under : (o : Option End) (b c : Bool) → o ≡ None → b ≡ c → b ≡ (not (is_some o) && c)
 under None b c e f = f

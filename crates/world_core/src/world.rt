@@ -1,16 +1,18 @@
 //! The world: a run whose state is what its events lead to.
 
-ghost use Rattle.std.specs.Prelude.{◌≡◌, ◌≤◌, ◌<◌, ◌+◌, IsTrue, IfOk, OnOk, OnErr, map, length};
+ghost use Rattle.std.specs.Prelude.{◌≡◌, ◌≤◌, ◌<◌, ◌+◌, IsTrue, IfOk, OnOk, OnErr, map, length, None};
+ghost use Rattle.c_tree.specs.Able.{able, standing};
 ghost use Rattle.c_tree.specs.Layout as layout;
-ghost use Rattle.c_tree.specs.Run.{stepped};
+ghost use Rattle.c_tree.specs.Run.{stepped, may_step};
 ghost use Rattle.c_tree.specs.Step.{step};
 ghost use Rattle.c_tree.specs.declared.event.EventKind.TheVariants as e;
 ghost use Rattle.c_places.specs.Limit.{KeepsLimit};
 ghost use Rattle.world_core.specs.History.{begun, core, over, may_turn, with_event, IsRun};
 
 use crate::now::{Now, may_step, over, present, step_now};
+use c_meaning::able::{able, standing};
 use c_places::places;
-use c_tree::{End, Event, EventKind, Lifted, Phase, Places, Settings, State, Text};
+use c_tree::{End, Event, EventKind, Lifted, Phase, Places, Row, Settings, State, Text};
 use std::alloc::{AllocError, Global};
 use std::marker::Model;
 
@@ -115,17 +117,69 @@ impl World {
         )
     }
 
+    /// Whether a Step of the thread is legal.
     pub fn may_turn(&self, t: u32) -> bool
         ensures { result ≡ may_turn self.now t }
     {
-        self.over().is_none()
-            && may_step(
-                &self.settings,
-                present(&self.settings, self.here.phase),
-                &self.places,
-                &self.here,
-                t,
-            )
+        self.over().is_none() && self.may_step(t)
+    }
+
+    /// Whether a Step of the thread is legal, where the caller knows that the run isn't over.
+    ///
+    /// It looks at this thread alone, while `may_turn` may look at all.
+    pub fn may_step(&self, t: u32) -> bool
+        requires { over self.now ≡ None }
+        ensures step { result ≡ may_step self.now.settings (core self.now) t }
+        ensures turn { result ≡ may_turn self.now t }
+    {
+        may_step(
+            &self.settings,
+            present(&self.settings, self.here.phase),
+            &self.places,
+            &self.here,
+            t,
+        )
+    }
+
+    /// Whether the thread is live, at no lock that another holds and at no join of another
+    /// live thread.
+    pub fn able(&self, t: u32) -> bool
+        ensures { result ≡ able (core self.now).program (core self.now).state t }
+    {
+        able(
+            present(&self.settings, self.here.phase),
+            &self.places,
+            &self.here.state,
+            t,
+        )
+    }
+
+    /// Whether the thread is live and stands at an entry, a loop end, a lock or a join.
+    pub fn standing(&self, t: u32) -> bool
+        ensures { result ≡ standing (core self.now).program (core self.now).state t }
+    {
+        standing(
+            present(&self.settings, self.here.phase),
+            &self.places,
+            &self.here.state,
+            t,
+        )
+    }
+
+    /// The program that the run began with.
+    pub fn program(&self) -> &Lifted
+        ensures { result.now ≡ self.now.settings.program }
+    {
+        &self.settings.program
+    }
+
+    /// Gives the events and drops all else, with no copy.
+    pub fn into_events(self) -> Row<Event>
+        ensures value { result ≡ self.events }
+        ensures legal { IsRun self }
+    {
+        let World { events, .. } = self;
+        Row::from_vec(events)
     }
 
     /// Makes a Step of a thread, as a worker. Where memory is short all stays.

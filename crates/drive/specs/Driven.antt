@@ -1,0 +1,31 @@
+-- What the answer of a plan says of the run.
+use Rattle.std.specs.Prelude.{◌≡◌, true, false, Some, None}
+use Rattle.c_tree.specs.declared.run.Picker.{Picker}
+use Rattle.c_tree.specs.declared.run.Picker.TheVariants as picker
+use Rattle.c_tree.specs.declared.run.Settings.{Settings}
+use Rattle.c_tree.specs.Plan.{IsPlanned, refused_at}
+use Rattle.c_tree.specs.Run.{first}
+use Rattle.history.specs.declared.listing.Listing.{Listing}
+use Rattle.world_core.specs.History.{History, over}
+use Rattle.drive.specs.declared.list.Driven.{Driven}
+use Rattle.drive.specs.declared.list.Driven.TheVariants.{Ended, ListRefused}
+use Rattle.drive.specs.declared.plan.Plan.{Plan}
+use Rattle.drive.specs.declared.plan.Plan.TheVariants as plan
+
+-- the run is over, and its events are those of the picker: a picker's plan is never refused
+abbrev pub IsPicked : Picker → Settings → History → Driven → Type 0
+IsPicked start k h (Ended end) = (over h ≡ Some end) × IsPlanned k false start h.events
+IsPicked start k h (ListRefused n) = ⊥
+
+-- the run is over, and its events are the listed ones; or n is the number at which the listing is refused
+abbrev pub IsListed : Listing → Settings → History → Driven → Type 0
+IsListed l k h (Ended end) =
+    (over h ≡ Some end) × (h.events ≡ l.events) × (l.clean ≡ true)
+    × (refused_at k l.clean 1 (first k) l.events ≡ None)
+IsListed l k h (ListRefused n) = refused_at k l.clean 1 (first k) l.events ≡ Some n
+
+-- what a plan's answer says of the run
+abbrev pub IsDriven : Plan → Settings → History → Driven → Type 0
+IsDriven plan.Round k h d = IsPicked (picker.Round None) k h d
+IsDriven (plan.Seed seed) k h d = IsPicked (picker.Seed seed) k h d
+IsDriven (plan.List listing) k h d = IsListed listing k h d
