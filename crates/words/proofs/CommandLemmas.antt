@@ -1,0 +1,39 @@
+-- What the parts of the code's commands make together.
+use Rattle.std.proofs.Common.{◌≡◌, ◌∙◌, Bool, true, false, refl, ap, arith, List, [], ◌∷◌, map, Option, Some, None, codes}
+use Rattle.std.specs.Prelude.{IfSome, slice_get, unwrap_or}
+use Rattle.std.specs.Option.{option_map_or}
+use Rattle.std.specs.Str.{bytes_eq}
+use Rattle.std.proofs.lemmas.Slice.Eq.{bytes_eq-Decides}
+use Rattle.clap.specs.Words.{IsUnsignedIn, Row, Text, first_of}
+use Rattle.words.specs.Command.{Usage, RunWords, command_of, command_on, file_in, number_in, run_of, run_on, run_words}
+use Rattle.words.specs.Options.{default_steps, found, max_seed, max_steps, run_app}
+
+-- a run of the parts that were found is what the words of a run ask for
+pub run_given : (words : List Text) (rows : List Row) (run : RunWords) → Some rows ≡ found run_app words
+    → run.file ≡ file_in rows → run.input ≡ first_of (codes "input") rows → run.seed ≡ number_in (codes "seed") rows
+    → run.schedule ≡ first_of (codes "schedule") rows → run.steps ≡ unwrap_or (number_in (codes "steps") rows) default_steps
+    → run.history ≡ first_of (codes "history") rows → run_on run ≡ run_of words
+run_given words rows run is file input seed schedule steps history =
+    let same : run ≡ run_words rows = λ i. record { file = file i; input = input i; seed = seed i; schedule = schedule i; steps = steps i; history = history i } in
+    ap run_on same ∙ ap (λ o. option_map_or (λ rows. run_on (run_words rows)) o Usage) is
+
+-- a number of steps is a number
+pub steps_are_read : (o : Option Text) → IfSome o (IsUnsignedIn 1 max_steps) → IfSome o (IsUnsignedIn 0 max_seed)
+steps_are_read None h = tt
+steps_are_read (Some t) h = (h.0, h.1, omega arith, omega (arith, h.3))
+
+differs : (a b : Text) → (a ≡ b → ⊥) → bytes_eq a b ≡ false
+differs a b other = go (bytes_eq a b) refl
+  where
+    go : (t : Bool) → bytes_eq a b ≡ t → bytes_eq a b ≡ false
+    go true e = absurd (other ((bytes_eq-Decides a b).0 e))
+    go false e = e
+
+-- words that begin with no command's name are a usage fault
+pub no_command : {X : Type 0} (text : X → Text) (words : List X) (first : X) (name : Text) → Some first ≡ slice_get words 0 → name ≡ text first
+    → (name ≡ codes "check" → ⊥) → (name ≡ codes "points" → ⊥) → (name ≡ codes "run" → ⊥) → Usage ≡ command_of (map text words)
+no_command text [] first name e is check points run = cc
+no_command text (x ∷ xs) first name e is check points run =
+    let same : name ≡ text x = is ∙ ap (λ o. text (unwrap_or o first)) e in
+    let here : Usage ≡ command_on name (map text (x ∷ xs)) = rw (differs name (codes "check") check, differs name (codes "points") points, differs name (codes "run") run) refl in
+    here ∙ ap (λ (n : Text). command_on n (map text (x ∷ xs))) same

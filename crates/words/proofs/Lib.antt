@@ -1,0 +1,6 @@
+pub mod FaultFree
+pub mod BareLemmas
+pub mod NumbersPass
+pub mod LawLemmas
+pub mod CommandLemmas
+mod Examples

@@ -1,0 +1,19 @@
+use Rattle.std.proofs.Common.{◌≡◌, ◌∙◌, ap, sym, subst, codes, map, option_map, string_bytes, unwrap_or, Some}
+use Rattle.clap.specs.Words.{first_of, found_of, rows_of}
+use Rattle.words.specs.Bare.{IsBare}
+use Rattle.words.specs.Options.{default_steps, found, run_app}
+use Rattle.words.proofs.BareLemmas.{run_is_bare}
+use Rattle.words.proofs.CommandLemmas.{run_given, steps_are_read}
+use Rattle.words.proofs.LawLemmas.{seed_lies, steps_lie}
+use Rattle.words.proofs.command.run_in.Goals as goal
+
+pub returns : goal.returns
+returns c =
+    let words = map string_bytes c.args.words.now in
+    let rows = rows_of (found_of c.in-Some.matches) in
+    let bare = subst IsBare (sym c.in_ok-run_command.ensures) run_is_bare in
+    let is : Some rows ≡ found run_app words = sym (ap (option_map (λ m. rows_of (found_of m))) c.in-Some.is) ∙ c.in_ok-matches.ensures bare
+    ∙ ap (λ a. found a words) c.in_ok-run_command.ensures in
+    let steps = c.number_in-2.ensures (steps_are_read (first_of (codes "steps") rows) (steps_lie words rows is)) in
+    c.run_on.ensures ∙ run_given words rows _ is c.file_in.ensures c.text_in.ensures (c.number_in.ensures (seed_lies words rows is)) c.text_in-2.ensures
+    (c.unwrap_or.ensures ∙ ap (λ o. unwrap_or o default_steps) steps) c.text_in-3.ensures

@@ -1,0 +1,80 @@
+-- The command that the words of a call are.
+use Rattle.std.specs.Prelude.{ℕ, ◌&&◌, List, [], ◌∷◌, Option, is_some, unwrap_or, option_map, if◌then◌else◌, codes}
+use Rattle.std.specs.Option.{option_map_or}
+use Rattle.std.specs.Str.{bytes_eq}
+use Rattle.std.specs.Str.Parse.{digits_value, without_leading_plus}
+use Rattle.clap.specs.Words.{Row, Text, first_of}
+use Rattle.words.specs.Options as options
+
+-- What a run is asked to do.
+pub record RunWords : Type 0 where
+  -- the name of the file with the program
+  pub file : Text
+  -- the name of the file that the program reads as its input
+  pub input : Option Text
+  -- what the choices of a drawn schedule are drawn from
+  pub seed : Option ℕ
+  -- the name of the file with a schedule
+  pub schedule : Option Text
+  -- the most steps that the run may make
+  pub steps : ℕ
+  -- the name of the file that the history goes to
+  pub history : Option Text
+
+-- What the words ask for. Each command but `Usage` has the name of its file.
+pub data Command : Type 0 where
+  Usage : Command
+  Check : Text → Command
+  Points : Text → Command
+  Run : RunWords → Command
+
+-- the name of the file that is read
+abbrev pub file_in : List Row → Text
+file_in rows = unwrap_or (first_of (codes "file") rows) []
+
+-- the number that a text says
+abbrev pub number_of : Text → ℕ
+number_of text = digits_value 10 (without_leading_plus text)
+
+-- the number of an option, where it was given
+abbrev pub number_in : Text → List Row → Option ℕ
+number_in name rows = option_map number_of (first_of name rows)
+
+abbrev pub run_words : List Row → RunWords
+run_words rows = record {
+  file = file_in rows;
+  input = first_of (codes "input") rows;
+  seed = number_in (codes "seed") rows;
+  schedule = first_of (codes "schedule") rows;
+  steps = unwrap_or (number_in (codes "steps") rows) options.default_steps;
+  history = first_of (codes "history") rows;
+}
+
+-- a run follows a schedule or draws one from a seed, and not both
+abbrev pub run_on : RunWords → Command
+run_on words = if is_some words.seed && is_some words.schedule then Usage else Run words
+
+-- what each command asks for, by what was found in its words; words that it doesn't take are a
+-- usage fault
+abbrev pub check_of : List Text → Command
+check_of words =
+    option_map_or (λ rows. Check (file_in rows)) (options.found options.check_app words) Usage
+
+abbrev pub points_of : List Text → Command
+points_of words =
+    option_map_or (λ rows. Points (file_in rows)) (options.found options.points_app words) Usage
+
+abbrev pub run_of : List Text → Command
+run_of words =
+    option_map_or (λ rows. run_on (run_words rows)) (options.found options.run_app words) Usage
+
+abbrev pub command_on : Text → List Text → Command
+command_on name words =
+    if bytes_eq name (codes "check") then check_of words
+    else (if bytes_eq name (codes "points") then points_of words
+    else (if bytes_eq name (codes "run") then run_of words else Usage))
+
+-- the command that the words are; the first of them is its name
+abbrev pub command_of : List Text → Command
+command_of [] = Usage
+command_of (name ∷ rest) = command_on name (name ∷ rest)

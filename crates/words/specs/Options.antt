@@ -1,0 +1,69 @@
+-- The words that each command takes after its name, as the commands of clap.
+use Rattle.std.specs.Prelude.{ℕ, Option, Some, None, List, true, codes, if◌then◌else◌}
+use Rattle.clap.specs.Words.{App, Row, Rule, Text, new_app, new_rule, with_rule, takes, matches_of}
+use Rattle.clap.specs.Simple.{on_top}
+use Rattle.clap.specs.declared.builder.value_parser.ValueParser.TheVariants as parser
+
+-- the file that a command reads, which has to be named
+abbrev pub file : Rule
+file = record (new_rule (codes "file")) { required = true }
+
+-- an option with a text, `--NAME TEXT`
+abbrev pub text_option : Text → Rule
+text_option name = record (new_rule name) { long = Some name }
+
+-- an option with a number in a range
+abbrev pub number_option : Text → ℕ → ℕ → Rule
+number_option name least most =
+    record (text_option name) { parser = Some (parser.Unsigned least most) }
+
+abbrev pub input : Rule
+input = text_option (codes "input")
+
+abbrev pub max_seed : ℕ
+max_seed = 18446744073709551615
+
+abbrev pub max_steps : ℕ
+max_steps = 10000000
+
+abbrev pub default_steps : ℕ
+default_steps = 1000000
+
+abbrev pub seed : Rule
+seed = number_option (codes "seed") 0 max_seed
+
+abbrev pub schedule : Rule
+schedule = text_option (codes "schedule")
+
+abbrev pub steps : Rule
+steps = number_option (codes "steps") 1 max_steps
+
+abbrev pub history : Rule
+history = text_option (codes "history")
+
+-- a command with no words of its own for help and for the version
+abbrev pub bare : Text → App
+bare name = on_top (λ s. record s {
+  disable_help_flag = true;
+  disable_version_flag = true;
+  disable_help_subcommand = true;
+}) (new_app name)
+
+-- a command that takes a file alone
+abbrev pub file_app : Text → App
+file_app name = with_rule (bare name) file
+
+abbrev pub check_app : App
+check_app = file_app (codes "check")
+
+abbrev pub points_app : App
+points_app = file_app (codes "points")
+
+abbrev pub run_app : App
+run_app =
+    with_rule (with_rule (with_rule (with_rule (with_rule
+    (file_app (codes "run")) input) seed) schedule) steps) history
+
+-- what was found for each argument, where the command takes the words
+abbrev pub found : App → List Text → Option (List Row)
+found app words = if takes app words then Some (matches_of app words) else None

@@ -1,0 +1,26 @@
+-- The code's commands as the definitions see them: without where their texts lie in memory.
+use Rattle.std.specs.Prelude.{ℕ, List, Option, option_map}
+use Rattle.std.specs.Borrow.{Bor}
+use Rattle.words.specs.Command as c
+use Rattle.words.specs.declared.command.Command.{Command}
+use Rattle.words.specs.declared.command.Command.TheVariants.{Usage, Check, Points, Run}
+use Rattle.words.specs.declared.command.RunWords.{RunWords}
+
+abbrev pub text : Option (Bor (List ℕ)) → Option (List ℕ)
+text = option_map (λ s. s.now)
+
+abbrev pub run : RunWords → c.RunWords
+run r = record {
+  file = r.file.now;
+  input = text r.input;
+  seed = r.seed;
+  schedule = text r.schedule;
+  steps = r.steps;
+  history = text r.history;
+}
+
+abbrev pub command : Command → c.Command
+command Usage = c.Usage
+command (Check name) = c.Check name.now
+command (Points name) = c.Points name.now
+command (Run r) = c.Run (run r)

@@ -1,0 +1,109 @@
+//! The command that the words of a call are.
+
+ghost use Rattle.std.specs.Prelude.{◌≡◌, IfOk, map, string_bytes};
+ghost use Rattle.words.specs.Command as spec;
+ghost use Rattle.words.specs.Laws as laws;
+ghost use Rattle.words.specs.Views as view;
+
+use crate::matches::{file_in, found_in, number_in, text_in};
+use crate::options::{check_command, points_command, run_command};
+use std::alloc::{AllocError, Global};
+
+/// The most steps of a run that was given no number of them.
+const DEFAULT_STEPS: u64 = 1_000_000;
+
+/// What a run is asked to do.
+#[derive(Clone, Copy, Debug, PartialEq, Eq)]
+pub struct RunWords<'a> {
+    /// The name of the file with the program.
+    pub file: &'a str,
+    /// The name of the file that the program reads as its input.
+    pub input: Option<&'a str>,
+    /// What the choices of a drawn schedule are drawn from.
+    pub seed: Option<u64>,
+    /// The name of the file with a schedule; not beside a seed.
+    pub schedule: Option<&'a str>,
+    /// The most steps that the run may make, from 1 to 10,000,000.
+    pub steps: u64,
+    /// The name of the file that the history goes to.
+    pub history: Option<&'a str>,
+}
+
+/// What the words ask for. Each command but `Usage` has the name of its file.
+#[derive(Clone, Copy, Debug, PartialEq, Eq)]
+pub enum Command<'a> {
+    /// The words are no command.
+    Usage,
+    /// Whether the source is accepted, and how much it has of each kind.
+    Check(&'a str),
+    /// The places of the program that mappings can name.
+    Points(&'a str),
+    /// A run of the program.
+    Run(RunWords<'a>),
+}
+
+fn check_in<'a>(alloc: Global, words: &'a [String]) -> Result<Command<'a>, AllocError>
+    ensures { IfOk result (λ c.
+        view.command c ≡ spec.check_of (map string_bytes words.entry.now)) }
+{
+    let command = match found_in(check_command(alloc)?, words)? {
+        Some(matches) => Command::Check(file_in(&matches)),
+        None => Command::Usage,
+    };
+    Ok(command)
+}
+
+fn points_in<'a>(alloc: Global, words: &'a [String]) -> Result<Command<'a>, AllocError>
+    ensures { IfOk result (λ c.
+        view.command c ≡ spec.points_of (map string_bytes words.entry.now)) }
+{
+    let command = match found_in(points_command(alloc)?, words)? {
+        Some(matches) => Command::Points(file_in(&matches)),
+        None => Command::Usage,
+    };
+    Ok(command)
+}
+
+/// A run follows a schedule or draws one from a seed, and not both.
+fn run_on<'a>(run: RunWords<'a>) -> Command<'a>
+    ensures { view.command result ≡ spec.run_on (view.run run.entry) }
+{
+    if run.seed.is_some() && run.schedule.is_some() {
+        return Command::Usage;
+    }
+    Command::Run(run)
+}
+
+fn run_in<'a>(alloc: Global, words: &'a [String]) -> Result<Command<'a>, AllocError>
+    ensures { IfOk result (λ c.
+        view.command c ≡ spec.run_of (map string_bytes words.entry.now)) }
+{
+    let Some(matches) = found_in(run_command(alloc)?, words)? else {
+        return Ok(Command::Usage);
+    };
+    Ok(run_on(RunWords {
+        file: file_in(&matches),
+        input: text_in(&matches, "input"),
+        seed: number_in(&matches, "seed"),
+        schedule: text_in(&matches, "schedule"),
+        steps: number_in(&matches, "steps").unwrap_or(DEFAULT_STEPS),
+        history: text_in(&matches, "history"),
+    }))
+}
+
+/// The command that the words are, of which the first is its name. An `Err` is want of memory.
+pub fn command_of<'a>(alloc: Global, words: &'a [String]) -> Result<Command<'a>, AllocError>
+    ensures command { IfOk result (λ c.
+        view.command c ≡ spec.command_of (map string_bytes words.entry.now)) }
+    ensures fair { IfOk result (λ c. laws.IsFairCommand (view.command c)) }
+{
+    let Some(name) = words.first() else {
+        return Ok(Command::Usage);
+    };
+    match name.as_str() {
+        "check" => check_in(alloc, words),
+        "points" => points_in(alloc, words),
+        "run" => run_in(alloc, words),
+        _ => Ok(Command::Usage),
+    }
+}

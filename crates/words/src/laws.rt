@@ -1,0 +1,9 @@
+//! What holds of whatever the words ask for: each function is the proof of what it promises.
+
+ghost use Rattle.words.specs.Laws as laws;
+
+/// In what is asked for as a run, the steps lie from 1 to 10,000,000, a seed is below 2^64, and a
+/// seed and a schedule are not both there.
+pub fn run_is_fair_law()
+    ensures { laws.RunIsFair }
+{}

@@ -1,0 +1,18 @@
+//! What the words of a call ask for.
+//!
+//! The layers above rest on one contract: `command_of` gives the one command that the words are,
+//! and a run that it gives is fair: its steps and its seed lie in their ranges, and it has not both
+//! a seed and a schedule.
+//!
+//! The first word names a command, and `clap` reads the words after it. Nothing is printed here: a
+//! call for help is a usage fault as any other.
+#![tactic(auto)]
+
+mod command;
+pub mod laws;
+mod matches;
+mod options;
+#[cfg(test)]
+mod tests;
+
+pub use command::{Command, RunWords, command_of};

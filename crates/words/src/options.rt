@@ -1,0 +1,96 @@
+//! The words that each command takes after its name: one function per argument, and one per
+//! command.
+
+ghost use Rattle.std.specs.Prelude.{◌≡◌, IfOk, false};
+ghost use Rattle.clap.specs.Words.{app_of, rule_of};
+ghost use Rattle.words.specs.Options as spec;
+
+use clap::builder::ValueParser;
+use clap::{Arg, Command};
+use std::alloc::{AllocError, Global};
+
+/// The most steps that a run may be given.
+const MAX_STEPS: u64 = 10_000_000;
+
+/// The name of the file that the command reads.
+fn file<'a>(alloc: Global) -> Arg<'a>
+    ensures { (rule_of result ≡ spec.file) × (result.global ≡ false) }
+{
+    Arg::new(alloc, "file").required(true)
+}
+
+/// The name of the file that the program reads as its input.
+fn input<'a>(alloc: Global) -> Arg<'a>
+    ensures { (rule_of result ≡ spec.input) × (result.global ≡ false) }
+{
+    Arg::new(alloc, "input").long("input")
+}
+
+/// What the choices of a drawn schedule are drawn from.
+fn seed<'a>(alloc: Global) -> Arg<'a>
+    ensures { (rule_of result ≡ spec.seed) × (result.global ≡ false) }
+{
+    Arg::new(alloc, "seed")
+        .long("seed")
+        .value_parser(ValueParser::unsigned(0, u64::MAX))
+}
+
+/// The name of the file with a schedule.
+fn schedule<'a>(alloc: Global) -> Arg<'a>
+    ensures { (rule_of result ≡ spec.schedule) × (result.global ≡ false) }
+{
+    Arg::new(alloc, "schedule").long("schedule")
+}
+
+/// The most steps that the run may make.
+fn steps<'a>(alloc: Global) -> Arg<'a>
+    ensures { (rule_of result ≡ spec.steps) × (result.global ≡ false) }
+{
+    Arg::new(alloc, "steps")
+        .long("steps")
+        .value_parser(ValueParser::unsigned(1, MAX_STEPS))
+}
+
+/// The name of the file that the history goes to.
+fn history<'a>(alloc: Global) -> Arg<'a>
+    ensures { (rule_of result ≡ spec.history) × (result.global ≡ false) }
+{
+    Arg::new(alloc, "history").long("history")
+}
+
+/// A command that takes a file alone, and has no words for help and for the version.
+fn file_command<'a>(alloc: Global, name: &'a str) -> Result<Command<'a>, AllocError>
+    ensures { IfOk result (λ c. app_of c ≡ spec.file_app name.entry.now) }
+{
+    Command::new(alloc, name)
+        .disable_help_flag(true)
+        .disable_version_flag(true)
+        .disable_help_subcommand(true)
+        .arg(file(alloc))
+}
+
+/// `check FILE`
+pub(crate) fn check_command<'a>(alloc: Global) -> Result<Command<'a>, AllocError>
+    ensures { IfOk result (λ c. app_of c ≡ spec.check_app) }
+{
+    file_command(alloc, "check")
+}
+
+/// `points FILE`
+pub(crate) fn points_command<'a>(alloc: Global) -> Result<Command<'a>, AllocError>
+    ensures { IfOk result (λ c. app_of c ≡ spec.points_app) }
+{
+    file_command(alloc, "points")
+}
+
+/// `run FILE [--input F] [--seed N] [--schedule F] [--steps N] [--history F]`
+pub(crate) fn run_command<'a>(alloc: Global) -> Result<Command<'a>, AllocError>
+    ensures { IfOk result (λ c. app_of c ≡ spec.run_app) }
+{
+    file_command(alloc, "run")?
+        .arg(input(alloc))?
+        .arg(seed(alloc))?
+        .arg(schedule(alloc))?
+        .arg(steps(alloc))?
+        .arg(history(alloc))
+}

@@ -1,0 +1,105 @@
+//! What words ask for, as one table.
+
+use crate::{Command, RunWords, command_of};
+use std::alloc::{AllocError, Global};
+
+fn run(file: &str) -> RunWords<'_> {
+    RunWords {
+        file,
+        input: None,
+        seed: None,
+        schedule: None,
+        steps: 1_000_000,
+        history: None,
+    }
+}
+
+/// The words between the blanks of a line.
+fn words_of(alloc: Global, line: &str) -> Result<Vec<String>, AllocError> {
+    let mut words = Vec::new(alloc);
+    for word in line.split(' ') {
+        if !word.is_empty() {
+            words.push(String::from_str(alloc, word)?)?;
+        }
+    }
+    Ok(words)
+}
+
+#[test]
+fn the_words_are_the_command(rt: HostRuntime) {
+    let most = RunWords {
+        steps: 10_000_000,
+        ..run("a.c")
+    };
+    let seeded = RunWords {
+        seed: Some(1),
+        ..run("a.c")
+    };
+    let greatest = RunWords {
+        seed: Some(18446744073709551615),
+        ..run("a.c")
+    };
+    let listed = RunWords {
+        schedule: Some("s"),
+        ..run("a.c")
+    };
+    let written = RunWords {
+        history: Some("h"),
+        ..run("a.c")
+    };
+    let fed = RunWords {
+        input: Some("i"),
+        ..run("a.c")
+    };
+    for (line, want) in [
+        ("", Command::Usage),
+        ("a.c", Command::Usage),
+        ("--help", Command::Usage),
+        ("--version", Command::Usage),
+        ("help", Command::Usage),
+        ("check", Command::Usage),
+        ("check a b", Command::Usage),
+        ("check a", Command::Check("a")),
+        ("check --help", Command::Usage),
+        ("check help", Command::Check("help")),
+        ("check a --seed 1", Command::Usage),
+        ("points a", Command::Points("a")),
+        ("points -h", Command::Usage),
+        ("points --version", Command::Usage),
+        ("points -- -h", Command::Points("-h")),
+        ("run", Command::Usage),
+        ("run a.c", Command::Run(run("a.c"))),
+        ("run -- -x", Command::Run(run("-x"))),
+        ("run a.c b.c", Command::Usage),
+        ("run a.c --seed 1", Command::Run(seeded)),
+        ("run a.c --seed=+01", Command::Run(seeded)),
+        (
+            "run --seed 18446744073709551615 a.c",
+            Command::Run(greatest),
+        ),
+        ("run --seed 18446744073709551616 a.c", Command::Usage),
+        ("run a.c --seed one", Command::Usage),
+        ("run a.c --seed", Command::Usage),
+        ("run a.c --seed 1 --seed 1", Command::Usage),
+        ("run a.c --steps 0", Command::Usage),
+        ("run a.c --steps 10000000", Command::Run(most)),
+        ("run a.c --steps 10000001", Command::Usage),
+        ("run a.c --schedule s", Command::Run(listed)),
+        ("run a.c --seed 1 --schedule s", Command::Usage),
+        ("run a.c --history=h", Command::Run(written)),
+        ("run a.c --hist h", Command::Usage),
+        ("run a.c --input i", Command::Run(fed)),
+        ("run a.c --input", Command::Usage),
+        ("run a.c --input i --input i", Command::Usage),
+        ("check a.c --input i", Command::Usage),
+    ] {
+        let words = words_of(rt.alloc(), line).expect(&rt, "words");
+        let got = command_of(rt.alloc(), words.as_slice()).expect(&rt, "memory");
+        assert!(rt; got == want, "{line}");
+    }
+}
+
+#[test]
+fn laws_are_called(_rt: HostRuntime) {
+    crate::laws::run_is_fair_law();
+}
