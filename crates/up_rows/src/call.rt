@@ -1,9 +1,10 @@
 //! One call of the tool, and what it came to.
 
+use c_tree::Text;
 use std::alloc::{AllocError, Global};
 use std::process::Abort;
 use std::test::Fail;
-use up_base::{MemFiles, MemSink};
+use up_base::{Files, MemFiles, MemSink};
 use upstare_cmd::upstare_main;
 
 /// What is called: the words, and which calls fail: reads and writes of files, puts to the output
@@ -30,8 +31,17 @@ pub fn plain(words: &str) -> Call<'_> {
 #[derive(Drop)]
 pub struct Outcome {
     pub status: u8,
+    pub files: MemFiles,
     pub out: MemSink,
     pub err: MemSink,
+}
+
+/// What a file holds after the call; nothing where it isn't there.
+pub fn held(alloc: Global, outcome: &mut Outcome, name: &str) -> Text {
+    match outcome.files.read(alloc, name, u64::MAX) {
+        Ok(bytes) => Text::from_vec(bytes),
+        Err(_) => Text::from_vec(Vec::new(alloc)),
+    }
 }
 
 fn words_of(alloc: Global, words: &str) -> Result<Vec<String>, AllocError> {
@@ -56,7 +66,12 @@ pub fn made(
     let mut err = MemSink::new(call.err.to_vec(alloc)?, None);
     let words = words_of(alloc, call.words)?;
     let status = upstare_main(alloc, &words, &mut shelf, &mut out, &mut err);
-    Ok(Outcome { status, out, err })
+    Ok(Outcome {
+        status,
+        files: shelf,
+        out,
+        err,
+    })
 }
 
 /// What is wanted of a call: its status, what it puts to the output, and the line that it tells `err`.

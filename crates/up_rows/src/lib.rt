@@ -10,6 +10,10 @@ mod call;
 #[cfg(test)]
 mod faults;
 #[cfg(test)]
+mod histories;
+#[cfg(test)]
+mod input;
+#[cfg(test)]
 mod lifting;
 #[cfg(test)]
 mod reading;
@@ -17,6 +21,8 @@ mod reading;
 mod running;
 #[cfg(test)]
 mod table;
+#[cfg(test)]
+mod threads;
 #[cfg(test)]
 mod typing;
 #[cfg(test)]

@@ -9,7 +9,8 @@ use Rattle.c_lift.specs.Refusal as lifter
 use Rattle.c_tree.specs.declared.lifted.Lifted.{Lifted}
 use Rattle.c_tree.specs.Typing.{IsWellTyped}
 use Rattle.upstare_cmd.specs.Answer.{Answer}
-use Rattle.upstare_cmd.specs.Command.{Command, Wanted, AreRead, OfSource, Means, Intends, means, wanted}
+use Rattle.upstare_cmd.specs.Command.{Wanted, AreRead, OfSource, Means, Intends, means, wanted}
+use Rattle.words.specs.Command.{Command}
 use Rattle.upstare_cmd.specs.declared.answer.Answer as code
 use Rattle.upstare_cmd.specs.declared.source.SourceRefused.TheVariants as refused
 use Rattle.c_tokens.specs.declared.refused.ReadRefused.{ReadRefused}

@@ -15,6 +15,8 @@ code s.Trapped = 6
 code s.Deadlock = 7
 code s.StepLimit = 8
 code s.NoMemory = 9
+code s.ScheduleRefused = 10
+code s.TooLong = 11
 
 -- the status of a run by its end
 abbrev pub status_of : End → Status

@@ -52,6 +52,20 @@ pub fn refused(alloc: Global, name: &str, at: u32, why: &SourceCause) -> Result<
     Ok(line)
 }
 
+/// A file that holds more than it may.
+pub fn too_long(alloc: Global, name: &str) -> Result<Text, AllocError>
+    ensures { IfOk result (λ line. line ≡ spec.too_long name.now) }
+{
+    Ok(bytes_of(format!(in alloc; "too long {name}\n")?))
+}
+
+/// A schedule that is refused at its event of this number, from 1.
+pub fn schedule_refused(alloc: Global, name: &str, n: u64) -> Result<Text, AllocError>
+    ensures { IfOk result (λ line. line ≡ spec.schedule_refused name.now n) }
+{
+    Ok(bytes_of(format!(in alloc; "schedule {name} refused at {n}\n")?))
+}
+
 /// How much an accepted program has of each kind.
 pub fn counts(
     alloc: Global,

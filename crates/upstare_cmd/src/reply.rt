@@ -6,8 +6,7 @@ ghost use Rattle.upstare_cmd.specs.Views as view;
 
 use crate::answer::{Answer, Piece};
 use crate::line;
-use crate::run::RunEnd;
-use crate::status::{Status, status_of};
+use crate::status::Status;
 use c_tree::{Row, SourceCause, Text};
 use std::alloc::{AllocError, Global};
 
@@ -68,10 +67,20 @@ pub fn refused(alloc: Global, name: &str, at: u32, why: &SourceCause) -> Result<
     ))
 }
 
-/// What a run printed, and its report.
-pub fn ran(alloc: Global, run: RunEnd) -> Result<Answer, AllocError>
-    ensures { IfOk result (λ a. view.answer a ≡ spec.ran run.output run.steps run.end) }
+/// A file holds more than it may.
+pub fn too_long(alloc: Global, name: &str) -> Result<Answer, AllocError>
+    ensures { IfOk result (λ a. view.answer a ≡ spec.too_long name.now) }
 {
-    let line = line::report(alloc, run.end, run.steps)?;
-    puts(alloc, run.output, line, status_of(run.end))
+    Ok(says(alloc, line::too_long(alloc, name)?, Status::TooLong))
+}
+
+/// A schedule is refused at its event of this number, from 1.
+pub fn schedule_refused(alloc: Global, name: &str, n: u64) -> Result<Answer, AllocError>
+    ensures { IfOk result (λ a. view.answer a ≡ spec.schedule_refused name.now n) }
+{
+    Ok(says(
+        alloc,
+        line::schedule_refused(alloc, name, n)?,
+        Status::ScheduleRefused,
+    ))
 }

@@ -26,6 +26,10 @@ pub enum Status {
     StepLimit,
     /// Memory was wanted.
     NoMemory,
+    /// A schedule has an event that the run can't make, or doesn't end with the run.
+    ScheduleRefused,
+    /// A schedule has more bytes than are read.
+    TooLong,
 }
 
 impl Status {
@@ -43,6 +47,8 @@ impl Status {
             Status::Deadlock => 7,
             Status::StepLimit => 8,
             Status::NoMemory => 9,
+            Status::ScheduleRefused => 10,
+            Status::TooLong => 11,
         }
     }
 }

@@ -1,19 +1,14 @@
 use Rattle.std.proofs.Common.{ap, arith}
-use Rattle.upstare_cmd.specs.Views as view
+use Rattle.words.specs.Views as words_view
 use Rattle.upstare_cmd.proofs.Refusing.{means_one}
 use Rattle.upstare_cmd.proofs.call.meant.Goals as goal
 
 pub returns-in-Check-len1 : goal.returns-in-Check-len1
 returns-in-Check-len1 c =
-    means_one _ _ c.args.texts.now c.source-item.result _ c.as_bytes.result.now _ (ap view.command c.in-Check-len1.is-0) (omega arith)
+    means_one _ _ c.args.texts.now c.source-item.result _ c.as_bytes.result.now _ (ap words_view.command c.in-Check-len1.is-0) (omega arith)
     c.source-item.is c.as_bytes.ensures c.check_meant.ensures
 
 pub returns-in-Points-len1 : goal.returns-in-Points-len1
 returns-in-Points-len1 c =
-    means_one _ _ c.args.texts.now c.source-item-then-this-lt2-2.result _ c.as_bytes-in-Points-len1.result.now _ (ap view.command c.in-Points-len1.is-0) (omega arith)
+    means_one _ _ c.args.texts.now c.source-item-then-this-lt2-2.result _ c.as_bytes-in-Points-len1.result.now _ (ap words_view.command c.in-Points-len1.is-0) (omega arith)
     c.source-item-then-this-lt2-2.is c.as_bytes-in-Points-len1.ensures c.points_meant.ensures
-
-pub returns-in-Run-len1 : goal.returns-in-Run-len1
-returns-in-Run-len1 c =
-    means_one _ _ c.args.texts.now c.source-item-then-this-lt2-3.result _ c.as_bytes-in-Run-len1.result.now _ (ap view.command c.in-Run-len1.is-0) (omega arith)
-    c.source-item-then-this-lt2-3.is c.as_bytes-in-Run-len1.ensures c.run_meant.ensures

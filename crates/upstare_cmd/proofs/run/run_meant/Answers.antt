@@ -1,6 +1,5 @@
-use Rattle.upstare_cmd.specs.Command as spec
-use Rattle.upstare_cmd.proofs.Refusing.{turned_down}
+use Rattle.upstare_cmd.proofs.Running.{of_texts}
 use Rattle.upstare_cmd.proofs.run.run_meant.Goals as goal
 
-pub returns-in-Err : goal.returns-in-Err
-returns-in-Err c = turned_down _ _ (λ a p. spec.RunMeans p a) _ _ c.in-Err.ensures.verdict c.turned_down.ensures
+pub returns : goal.returns
+returns c = of_texts _ _ _ _ _ _ c.in-Some.ensures.cases.0 c.as_bytes.ensures c.source_meant.ensures

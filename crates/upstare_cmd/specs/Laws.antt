@@ -1,0 +1,18 @@
+-- What holds of every accepted source.
+use Rattle.std.specs.Prelude.{◌≡◌, ℕ, List, Some, None}
+use Rattle.c_tree.specs.declared.event.Event.{Event}
+use Rattle.c_tree.specs.declared.lifted.Lifted.{Lifted}
+use Rattle.c_tree.specs.declared.run.Settings.{Settings}
+use Rattle.c_tree.specs.Formed.{IsFormed}
+use Rattle.c_tree.specs.Run.{Core, run}
+use Rattle.c_tree.specs.Valid.{Valid}
+use Rattle.upstare_cmd.specs.Source.{IsAccepted}
+
+-- The program of each accepted source is formed.
+abbrev pub AcceptedIsFormed : Type 0
+AcceptedIsFormed = (source : List ℕ) (p : Lifted) → IsAccepted source p → IsFormed p
+
+-- Each state that a run of an accepted source comes to, where no update is armed, is valid.
+abbrev pub AcceptedRunsStayValid : Type 0
+AcceptedRunsStayValid =
+    (source : List ℕ) (k : Settings) (events : List Event) (c : Core) → IsAccepted source k.program → k.armed ≡ None → run k events ≡ Some c → Valid k.program c.state
