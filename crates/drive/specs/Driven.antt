@@ -1,5 +1,5 @@
 -- What the answer of a plan says of the run.
-use Rattle.std.specs.Prelude.{◌≡◌, true, false, Some, None}
+use Rattle.std.specs.Prelude.{◌≡◌, ◌-◌, take, true, false, Some, None}
 use Rattle.c_tree.specs.declared.run.Picker.{Picker}
 use Rattle.c_tree.specs.declared.run.Picker.TheVariants as picker
 use Rattle.c_tree.specs.declared.run.Settings.{Settings}
@@ -17,12 +17,14 @@ abbrev pub IsPicked : Picker → Settings → History → Driven → Type 0
 IsPicked start k h (Ended end) = (over h ≡ Some end) × IsPlanned k false start h.events
 IsPicked start k h (ListRefused n) = ⊥
 
--- the run is over, and its events are the listed ones; or n is the number at which the listing is refused
+-- the run is over, and its events are the listed ones; or n is the number at which the listing is refused, and the events before
+-- it were made
 abbrev pub IsListed : Listing → Settings → History → Driven → Type 0
 IsListed l k h (Ended end) =
     (over h ≡ Some end) × (h.events ≡ l.events) × (l.clean ≡ true)
     × (refused_at k l.clean 1 (first k) l.events ≡ None)
-IsListed l k h (ListRefused n) = refused_at k l.clean 1 (first k) l.events ≡ Some n
+IsListed l k h (ListRefused n) =
+    (refused_at k l.clean 1 (first k) l.events ≡ Some n) × (h.events ≡ take (n - 1) l.events)
 
 -- what a plan's answer says of the run
 abbrev pub IsDriven : Plan → Settings → History → Driven → Type 0

@@ -1,5 +1,5 @@
 -- A listing, event by event.
-use Rattle.std.specs.Prelude.{◌≡◌, ℕ, ⊤, ◌+◌, Bool, true, false, take, drop, List, Option, Some, None}
+use Rattle.std.specs.Prelude.{◌≡◌, ℕ, ◌+◌, ◌-◌, Bool, true, false, take, drop, List, Option, Some, None}
 use Rattle.c_tree.specs.declared.event.Event.{Event}
 use Rattle.c_tree.specs.declared.event.EventKind.{EventKind}
 use Rattle.c_tree.specs.declared.run.Settings.{Settings}
@@ -14,10 +14,11 @@ abbrev pub refusal : Driven → Option ℕ
 refusal (Ended end) = None
 refusal (ListRefused n) = Some n
 
--- where the listing was taken, it is clean, and the World holds it and is over
+-- where the listing was taken, it is clean, and the World holds it and is over; where it is refused at an event, the World
+-- holds the events before that
 abbrev pub EndsAs : Driven → Bool → History → List Event → Type 0
 EndsAs (Ended end) clean h es = (over h ≡ Some end) × (h.events ≡ es) × (clean ≡ true)
-EndsAs (ListRefused n) clean h es = ⊤
+EndsAs (ListRefused n) clean h es = h.events ≡ take (n - 1) es
 
 -- an event was taken, or else it may not come and nothing changed
 abbrev pub Taken : Bool → History → History → ℕ → EventKind → Type 0

@@ -2,7 +2,9 @@
 //!
 //! A new row belongs in the file of its theme: `reading` has texts that are refused, `typing` programs
 //! that are ill typed, `lifting` what programs are lifted to and the limits, `running` programs and
-//! what they print, `faults` what failing files and sinks make of a call, `usage` the words.
+//! what they print, `memory` what they do with the heap and arrays, `input` what they read, `threads`
+//! what several threads come to under a schedule, `histories` the files of histories and schedules,
+//! `faults` what failing files and sinks make of a call, `usage` the words.
 #![tactic(auto)]
 
 #[cfg(test)]
@@ -15,6 +17,8 @@ mod histories;
 mod input;
 #[cfg(test)]
 mod lifting;
+#[cfg(test)]
+mod memory;
 #[cfg(test)]
 mod reading;
 #[cfg(test)]
