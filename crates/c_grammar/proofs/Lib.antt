@@ -1,2 +1,3 @@
 mod OneAnswer
+mod OneMapAnswer
 mod SameWords

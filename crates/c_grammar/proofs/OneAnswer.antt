@@ -18,7 +18,7 @@ use Rattle.c_grammar.specs.Pieces.{Piece}
 use Rattle.c_grammar.specs.Reading.{IsFault, rank, IsFirst, IsCutShort, IsReading}
 use Rattle.c_grammar.specs.Source.{pieces_of, IsProgramIn, IsFaultIn, at_token, at_scan, at_end, IsProgramOf, IsFirstFault, too_long, within, OneAnswer}
 
-some_is : {X : Type 0} {x y : X} → Some x ≡ Some y → x ≡ y
+pub some_is : {X : Type 0} {x y : X} → Some x ≡ Some y → x ≡ y
 some_is e = cc
 
 one_program : (p q : Program) → value.Program p ∷ [] ≡ value.Program q ∷ [] → p ≡ q
@@ -54,7 +54,7 @@ same_cause begin ps i cause.TooDeep cause.Unexpected e h h' = absurd (omega arit
 same_cause begin ps i cause.Unexpected (cause.LeftOut w) e h h' = absurd (omega arith)
 same_cause begin ps i cause.Unexpected cause.TooDeep e h h' = absurd (omega arith)
 
-first_is_one : (begin : List Symbol) (ps : List Piece) (i j : ℕ) (c d : ReadCause) → IsFirst begin ps i c → IsFirst begin ps j d → (i ≡ j) × (c ≡ d)
+pub first_is_one : (begin : List Symbol) (ps : List Piece) (i j : ℕ) (c d : ReadCause) → IsFirst begin ps i c → IsFirst begin ps j d → (i ≡ j) × (c ≡ d)
 first_is_one begin ps i j c d f g = elim (order i j) [
   | inl lt ↦ absurd (g.sound i c lt f.here)
   | inr (inl lt) ↦ absurd (f.sound j d lt g.here)
@@ -71,7 +71,7 @@ first_is_one begin ps i j c d f g = elim (order i j) [
     at_one : (i j : ℕ) → i ≡ j → IsFirst begin ps i c → IsFirst begin ps j d → (i ≡ j) × (c ≡ d)
     at_one i j e f g = (e, causes j (subst (λ x. IsFirst begin ps x c) e f) g)
 
-no_fault : {X : Type 0} (o : Option X) (x : X) → o ≡ None → o ≡ Some x → ⊥
+pub no_fault : {X : Type 0} (o : Option X) (x : X) → o ≡ None → o ≡ Some x → ⊥
 no_fault o x e f = let g : None ≡ Some x = sym e ∙ f in cc
 
 same_fault : (scan : Scan) (len a b : ℕ) (c d : ReadCause) → IsFaultIn scan len a c → IsFaultIn scan len b d → (a ≡ b) × (c ≡ d)

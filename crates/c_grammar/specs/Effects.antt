@@ -1,5 +1,6 @@
 -- What the actions make of the values that were read, and what is known beside the values.
-use Rattle.std.specs.Prelude.{ℕ, ℤ, pos, ◌+◌, ◌-◌, List, [], ◌∷◌, ◌++◌, Bool, true, false, Option, Some, None, cond}
+use Rattle.std.specs.Prelude.{ℕ, ℤ, pos, ◌+◌, ◌-◌, List, [], ◌∷◌, ◌++◌, Bool, true, false, Option, Some, None, cond, codes}
+use Rattle.std.specs.Fmt.{decimal}
 use Rattle.c_tree.specs.declared.token.Token.{Token}
 use Rattle.c_tree.specs.declared.ty.Ty.TheVariants as ty
 use Rattle.c_tree.specs.declared.op.UnOp.{UnOp}
@@ -20,6 +21,12 @@ use Rattle.c_tree.specs.declared.program.Const.TheVariants as const
 use Rattle.c_tree.specs.declared.program.Define.{Define}
 use Rattle.c_tree.specs.declared.program.Function.{Function}
 use Rattle.c_tree.specs.declared.program.Program.{Program}
+use Rattle.c_tree.specs.declared.place.PlaceKind.{PlaceKind}
+use Rattle.c_tree.specs.declared.place.PlaceKind.TheVariants as place
+use Rattle.c_tree.specs.declared.token.TokenKind.TheVariants as token
+use Rattle.c_tree.specs.declared.mapping.Entry.{Entry}
+use Rattle.c_tree.specs.declared.mapping.Entry.TheVariants as entry
+use Rattle.c_tree.specs.declared.mapping.Mapping.{Mapping}
 use Rattle.c_grammar.specs.declared.kind.Kind.{Kind}
 use Rattle.c_grammar.specs.declared.kind.Kind.TheVariants as kind
 use Rattle.c_grammar.specs.declared.action.Action.{Action}
@@ -29,8 +36,8 @@ use Rattle.c_grammar.specs.declared.value.Operand.{Operand}
 use Rattle.c_grammar.specs.declared.value.Value.{Value}
 use Rattle.c_grammar.specs.declared.value.Value.TheVariants as value
 use Rattle.c_grammar.specs.Marks.{keeps, opens, counts}
-use Rattle.c_grammar.specs.Tokens.{kind_of, text_of, number_of, natural}
-use Rattle.c_grammar.specs.Values.{second, third, fourth, fifth, sixth, seventh, node, operand, statement, no_program, word_in, ty_in, operand_in, exprs_in, maybe_expr_in, stmt_in, stmts_in, maybe_stmt_in, fields_in, count_in, const_in, define_in, program_in}
+use Rattle.c_grammar.specs.Tokens.{kind_of, map_kind_of, text_of, number_of, natural}
+use Rattle.c_grammar.specs.Values.{second, third, fourth, fifth, sixth, seventh, node, operand, statement, no_program, no_mapping, word_in, ty_in, operand_in, exprs_in, maybe_expr_in, stmt_in, stmts_in, maybe_stmt_in, fields_in, count_in, const_in, define_in, program_in, pt_in, fills_in, mapping_in}
 
 -- the word or text, the number and the offset of a token
 abbrev pub text : List Value → List ℕ
@@ -118,6 +125,37 @@ with_define p x = record p { defines = p.defines ++ x ∷ [] }
 
 abbrev pub with_function : Program → Function → Program
 with_function p x = record p { functions = p.functions ++ x ∷ [] }
+
+-- Which side a match is of, and which kind of place a point is.
+abbrev pub side_of : Kind → ℕ
+side_of kind.Struct = 1
+side_of kind.GlobalWord = 2
+side_of kind.MutexWord = 3
+side_of _ = 0
+
+abbrev pub place_of : Kind → PlaceKind
+place_of kind.LoopWord = place.LoopEnd
+place_of kind.CallWord = place.Call
+place_of _ = place.Block
+
+-- the kind of a word in a mapping
+abbrev pub meaning : List Value → Kind
+meaning vs = map_kind_of (word_in vs).kind
+
+-- the number that is newest, and a name that ends in it
+abbrev pub number : List Value → ℕ
+number vs = natural (number_of (word_in vs).kind)
+
+abbrev pub numbered : List ℕ → ℕ → List ℕ
+numbered name n = name ++ (codes "." ++ decimal n)
+
+-- a word with another text in its place
+abbrev pub renamed : Token → List ℕ → Token
+renamed t name = record { kind = token.Word name; at = t.at; len = t.len }
+
+-- The mapping with one more entry.
+abbrev pub with_entry : Mapping → ℕ → Entry → Mapping
+with_entry m at x = record { entries = m.entries ++ record { at = at; it = x } ∷ [] }
 
 -- The values after an action, the newest in front. What an action finds is said by its sorts; `vs` is the newest of it, then
 -- come `second`, `third`, ..
@@ -209,6 +247,25 @@ value_effect action.PlainItem vs = value.Program (with_global (program_in (third
 value_effect action.MutexItem vs = value.Program (with_mutex (program_in (second vs)) (named vs)) ∷ third vs
 value_effect action.FunctionItem vs = value.Program (with_function (program_in (sixth vs)) (function (third vs) (Some (stmts_in vs)))) ∷ seventh vs
 value_effect action.PrototypeItem vs = value.Program (with_function (program_in (fourth vs)) (function vs None)) ∷ fifth vs
+-- mappings: an entry stands at its first token, and a slot is one word
+value_effect action.StartMapping vs = value.Mapping no_mapping ∷ vs
+value_effect action.MatchEntry vs =
+    value.Mapping (with_entry (mapping_in (fourth vs)) (at (third vs)) (entry.Match (side_of (meaning (third vs))) (text (second vs)) (Some (text vs)))) ∷ fifth vs
+value_effect action.UnmatchedEntry vs =
+    value.Mapping (with_entry (mapping_in (third vs)) (at (second vs)) (entry.Match (side_of (meaning (second vs))) (text vs) None)) ∷ fourth vs
+value_effect action.FieldEntry vs =
+    value.Mapping (with_entry (mapping_in (fifth vs)) (at (fourth vs)) (entry.Field (text (third vs)) (text (second vs)) (operand_in vs).expr)) ∷ sixth vs
+value_effect action.InitEntry vs =
+    value.Mapping (with_entry (mapping_in (fourth vs)) (at (third vs)) (entry.Init (text (second vs)) (operand_in vs).expr)) ∷ fifth vs
+value_effect action.PointEntry vs =
+    value.Mapping (with_entry (mapping_in (sixth vs)) (at (fifth vs)) (entry.Point (text (fourth vs)) (pt_in (third vs)) (pt_in (second vs)) (fills_in vs))) ∷ seventh vs
+value_effect action.CheckEntry vs = value.Mapping (with_entry (mapping_in (third vs)) (at (second vs)) (entry.Check (operand_in vs).expr)) ∷ fourth vs
+value_effect action.EntryPt vs = value.Pt (record { kind = place.Entry; number = 1 }) ∷ vs
+value_effect action.NumberPt vs = value.Pt (record { kind = place_of (meaning (second vs)); number = number vs }) ∷ third vs
+value_effect action.NoFills vs = value.Fills [] ∷ vs
+value_effect action.MoreFill vs = value.Fills (fills_in (third vs) ++ record { slot = text (second vs); expr = (operand_in vs).expr } ∷ []) ∷ fourth vs
+value_effect action.HiddenName vs = value.Word (renamed (word_in (second vs)) (numbered (text (second vs)) (number vs))) ∷ third vs
+value_effect action.TempName vs = value.Word (renamed (word_in vs) (numbered [] (number vs))) ∷ second vs
 -- those that leave the values
 value_effect action.Leave vs = vs
 value_effect action.Outer vs = vs

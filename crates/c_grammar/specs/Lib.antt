@@ -9,4 +9,5 @@ pub mod Effects
 pub mod Pieces
 pub mod Reading
 pub mod Source
+pub mod Mapping
 pub mod Front

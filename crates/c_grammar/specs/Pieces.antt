@@ -9,7 +9,7 @@ use Rattle.c_grammar.specs.declared.kind.Kind.{Kind}
 use Rattle.c_grammar.specs.declared.kind.Kind.TheVariants as kind
 use Rattle.c_grammar.specs.declared.value.Value.{Value}
 use Rattle.c_grammar.specs.declared.value.Value.TheVariants as value
-use Rattle.c_grammar.specs.Tokens.{kind_of}
+use Rattle.c_grammar.specs.Tokens.{kind_of, map_kind_of}
 
 -- its kind, its offset, and the value that it is where it is kept
 pub record Piece : Type 0 where
@@ -19,6 +19,10 @@ pub record Piece : Type 0 where
 
 abbrev pub token_piece : Token → Piece
 token_piece t = record { kind = kind_of t.kind; at = t.at; value = value.Word t }
+
+-- a token of a mapping
+abbrev pub map_piece : Token → Piece
+map_piece t = record { kind = map_kind_of t.kind; at = t.at; value = value.Word t }
 
 -- an include, which is let go
 abbrev pub include : ℕ → Piece

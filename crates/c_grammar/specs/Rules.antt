@@ -303,19 +303,100 @@ alternatives rule.CastType =
     (Take kind.Struct Skip ∷ Take kind.Name Keep ∷ Take kind.Star Skip ∷ Act action.PtrType ∷ [])
     ∷ (Take kind.Void Skip ∷ Take kind.Star Skip ∷ Act action.AnyType ∷ [])
     ∷ []
--- MapUnary [-> Operand] = UnOp MapUnary @Leave @Un | Constant Arrows | "("$+ MapExpr ")" @Leave @Group Arrows | NAME$ MapName Arrows | "."$ NUMBER$ @TempSlot Arrows
+-- MapUnary [-> Operand] = UnOp MapUnary @Leave @Un | Constant MapArrows | "("$+ MapExpr ")" @Leave @Group MapArrows | AnyName MapName MapArrows | "."$ NUMBER$ @TempSlot MapArrows
 alternatives rule.MapUnary =
     (Expand rule.UnOp ∷ Expand rule.MapUnary ∷ Act action.Leave ∷ Act action.Un ∷ [])
-    ∷ (Expand rule.Constant ∷ Expand rule.Arrows ∷ [])
-    ∷ (Take kind.LeftParen OpenKeep ∷ Expand rule.MapExpr ∷ Take kind.RightParen Skip ∷ Act action.Leave ∷ Act action.Group ∷ Expand rule.Arrows ∷ [])
-    ∷ (Take kind.Name Keep ∷ Expand rule.MapName ∷ Expand rule.Arrows ∷ [])
-    ∷ (Take kind.Dot Keep ∷ Take kind.Number Keep ∷ Act action.TempSlot ∷ Expand rule.Arrows ∷ [])
+    ∷ (Expand rule.Constant ∷ Expand rule.MapArrows ∷ [])
+    ∷ (Take kind.LeftParen OpenKeep ∷ Expand rule.MapExpr ∷ Take kind.RightParen Skip ∷ Act action.Leave ∷ Act action.Group ∷ Expand rule.MapArrows ∷ [])
+    ∷ (Expand rule.AnyName ∷ Expand rule.MapName ∷ Expand rule.MapArrows ∷ [])
+    ∷ (Take kind.Dot Keep ∷ Take kind.Number Keep ∷ Act action.TempSlot ∷ Expand rule.MapArrows ∷ [])
     ∷ []
 -- MapName [Word -> Operand] = "["+ MapExpr "]" @Leave @Index | "." NUMBER$ @HiddenSlot | @NameExpr
 alternatives rule.MapName =
     (Take kind.LeftBracket Open ∷ Expand rule.MapExpr ∷ Take kind.RightBracket Skip ∷ Act action.Leave ∷ Act action.Index ∷ [])
     ∷ (Take kind.Dot Skip ∷ Take kind.Number Keep ∷ Act action.HiddenSlot ∷ [])
     ∷ (Act action.NameExpr ∷ [])
+    ∷ []
+-- MapArrows [Operand -> Operand] = "->"# AnyName @Field MapArrows |
+alternatives rule.MapArrows =
+    (Take kind.Arrow Count ∷ Expand rule.AnyName ∷ Act action.Field ∷ Expand rule.MapArrows ∷ [])
+    ∷ []
+    ∷ []
+-- AnyName [-> Word] = NewName | "none"$
+alternatives rule.AnyName =
+    (Expand rule.NewName ∷ [])
+    ∷ (Take kind.NoneWord Keep ∷ [])
+    ∷ []
+-- NewName [-> Word] = NAME$ | "function"$ | "global"$ | "mutex"$ | "field"$ | "init"$ | "point"$ | "check"$ | "entry"$ | "loop"$ | "call"$ | "block"$
+alternatives rule.NewName =
+    (Take kind.Name Keep ∷ [])
+    ∷ (Take kind.FunctionWord Keep ∷ [])
+    ∷ (Take kind.GlobalWord Keep ∷ [])
+    ∷ (Take kind.MutexWord Keep ∷ [])
+    ∷ (Take kind.FieldWord Keep ∷ [])
+    ∷ (Take kind.InitWord Keep ∷ [])
+    ∷ (Take kind.PointWord Keep ∷ [])
+    ∷ (Take kind.CheckWord Keep ∷ [])
+    ∷ (Take kind.EntryWord Keep ∷ [])
+    ∷ (Take kind.LoopWord Keep ∷ [])
+    ∷ (Take kind.CallWord Keep ∷ [])
+    ∷ (Take kind.BlockWord Keep ∷ [])
+    ∷ []
+-- Entries [Mapping -> Mapping] = Entry ";" Entries |
+alternatives rule.Entries =
+    (Expand rule.Entry ∷ Take kind.Semicolon Skip ∷ Expand rule.Entries ∷ [])
+    ∷ []
+    ∷ []
+-- Entry [Mapping -> Mapping] = Side AnyName "->" Target | "field"$ AnyName "." AnyName "=" @Outer MapExpr @FieldEntry | "init"$ AnyName "=" @Outer MapExpr @InitEntry | "point"$ AnyName Pt "->" Pt Fills @PointEntry | "check"$ @Outer MapExpr @CheckEntry
+alternatives rule.Entry =
+    (Expand rule.Side ∷ Expand rule.AnyName ∷ Take kind.Arrow Skip ∷ Expand rule.Target ∷ [])
+    ∷ (Take kind.FieldWord Keep ∷ Expand rule.AnyName ∷ Take kind.Dot Skip ∷ Expand rule.AnyName ∷ Take kind.Equal Skip ∷ Act action.Outer ∷ Expand rule.MapExpr ∷ Act action.FieldEntry ∷ [])
+    ∷ (Take kind.InitWord Keep ∷ Expand rule.AnyName ∷ Take kind.Equal Skip ∷ Act action.Outer ∷ Expand rule.MapExpr ∷ Act action.InitEntry ∷ [])
+    ∷ (Take kind.PointWord Keep ∷ Expand rule.AnyName ∷ Expand rule.Pt ∷ Take kind.Arrow Skip ∷ Expand rule.Pt ∷ Expand rule.Fills ∷ Act action.PointEntry ∷ [])
+    ∷ (Take kind.CheckWord Keep ∷ Act action.Outer ∷ Expand rule.MapExpr ∷ Act action.CheckEntry ∷ [])
+    ∷ []
+-- Side [-> Word] = "function"$ | "struct"$ | "global"$ | "mutex"$
+alternatives rule.Side =
+    (Take kind.FunctionWord Keep ∷ [])
+    ∷ (Take kind.Struct Keep ∷ [])
+    ∷ (Take kind.GlobalWord Keep ∷ [])
+    ∷ (Take kind.MutexWord Keep ∷ [])
+    ∷ []
+-- Target [Mapping Word Word -> Mapping] = NewName @MatchEntry | "none" @UnmatchedEntry
+alternatives rule.Target =
+    (Expand rule.NewName ∷ Act action.MatchEntry ∷ [])
+    ∷ (Take kind.NoneWord Skip ∷ Act action.UnmatchedEntry ∷ [])
+    ∷ []
+-- Pt [-> Pt] = "entry" @EntryPt | PtWord NUMBER$ @NumberPt
+alternatives rule.Pt =
+    (Take kind.EntryWord Skip ∷ Act action.EntryPt ∷ [])
+    ∷ (Expand rule.PtWord ∷ Take kind.Number Keep ∷ Act action.NumberPt ∷ [])
+    ∷ []
+-- PtWord [-> Word] = "loop"$ | "call"$ | "block"$
+alternatives rule.PtWord =
+    (Take kind.LoopWord Keep ∷ [])
+    ∷ (Take kind.CallWord Keep ∷ [])
+    ∷ (Take kind.BlockWord Keep ∷ [])
+    ∷ []
+-- Fills [-> Fills] = "{" @NoFills FillList "}" | @NoFills
+alternatives rule.Fills =
+    (Take kind.LeftBrace Skip ∷ Act action.NoFills ∷ Expand rule.FillList ∷ Take kind.RightBrace Skip ∷ [])
+    ∷ (Act action.NoFills ∷ [])
+    ∷ []
+-- FillList [Fills -> Fills] = FillName "=" @Outer MapExpr ";" @MoreFill FillList |
+alternatives rule.FillList =
+    (Expand rule.FillName ∷ Take kind.Equal Skip ∷ Act action.Outer ∷ Expand rule.MapExpr ∷ Take kind.Semicolon Skip ∷ Act action.MoreFill ∷ Expand rule.FillList ∷ [])
+    ∷ []
+    ∷ []
+-- FillName [-> Word] = AnyName FillNumber | "." NUMBER$ @TempName
+alternatives rule.FillName =
+    (Expand rule.AnyName ∷ Expand rule.FillNumber ∷ [])
+    ∷ (Take kind.Dot Skip ∷ Take kind.Number Keep ∷ Act action.TempName ∷ [])
+    ∷ []
+-- FillNumber [Word -> Word] = "." NUMBER$ @HiddenName |
+alternatives rule.FillNumber =
+    (Take kind.Dot Skip ∷ Take kind.Number Keep ∷ Act action.HiddenName ∷ [])
+    ∷ []
     ∷ []
 -- Mul [-> Operand] = Unary MulTail
 alternatives rule.Mul =
@@ -622,9 +703,12 @@ alternatives rule.NameTail =
     ∷ (Act action.NameExpr ∷ [])
     ∷ []
 
--- What a whole text is: a file, or an expression of a mapping.
+-- What a whole text is: a source, an expression of a mapping, or a mapping.
 abbrev pub start : List Symbol
 start = Act action.StartProgram ∷ Expand rule.Items ∷ []
 
 abbrev pub expr_start : List Symbol
 expr_start = Expand rule.MapExpr ∷ []
+
+abbrev pub map_start : List Symbol
+map_start = Act action.StartMapping ∷ Expand rule.Entries ∷ []

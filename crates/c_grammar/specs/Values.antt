@@ -18,6 +18,10 @@ use Rattle.c_tree.specs.declared.program.Const.{Const}
 use Rattle.c_tree.specs.declared.program.Const.TheVariants as const
 use Rattle.c_tree.specs.declared.program.Define.{Define}
 use Rattle.c_tree.specs.declared.program.Program.{Program}
+use Rattle.c_tree.specs.declared.place.PlaceKind.TheVariants as place
+use Rattle.c_tree.specs.declared.mapping.Fill.{Fill}
+use Rattle.c_tree.specs.declared.mapping.Mapping.{Mapping}
+use Rattle.c_tree.specs.declared.mapping.Pt.{Pt}
 use Rattle.c_grammar.specs.declared.value.Operand.{Operand}
 use Rattle.c_grammar.specs.declared.value.Value.{Value}
 use Rattle.c_grammar.specs.declared.value.Value.TheVariants as value
@@ -56,6 +60,9 @@ statement at kind = record { at = at; kind = kind }
 
 abbrev pub no_program : Program
 no_program = record { structs = []; globals = []; mutexes = []; defines = []; functions = []; len = 0 }
+
+abbrev pub no_mapping : Mapping
+no_mapping = record { entries = [] }
 
 -- What the newest value is, with a fixed one where it is of another sort: no text of the grammar leads there.
 abbrev pub word_in : List Value → Token
@@ -109,3 +116,15 @@ define_in _ = record { name = record { at = 0; it = [] }; minus = false; value =
 abbrev pub program_in : List Value → Program
 program_in (value.Program p ∷ vs) = p
 program_in _ = no_program
+
+abbrev pub pt_in : List Value → Pt
+pt_in (value.Pt x ∷ vs) = x
+pt_in _ = record { kind = place.Entry; number = 1 }
+
+abbrev pub fills_in : List Value → List Fill
+fills_in (value.Fills xs ∷ vs) = xs
+fills_in _ = []
+
+abbrev pub mapping_in : List Value → Mapping
+mapping_in (value.Mapping m ∷ vs) = m
+mapping_in _ = no_mapping

@@ -1,4 +1,4 @@
--- The words that are no names, and the signs. Written by tools/reader_tables.py.
+-- The words with a meaning, and the signs. Written by tools/reader_tables.py.
 use Rattle.std.specs.Prelude.{ℕ, List, [], ◌∷◌, codes}
 use Rattle.c_grammar.specs.declared.kind.Kind.{Kind}
 use Rattle.c_grammar.specs.declared.kind.Kind.TheVariants as kind
@@ -56,6 +56,23 @@ words =
     record { text = codes "register"; kind = kind.LeftOut } ∷
     record { text = codes "auto"; kind = kind.LeftOut } ∷
     record { text = codes "inline"; kind = kind.LeftOut } ∷
+    []
+
+-- the names that have a meaning in mappings
+unfoldable pub map_words : List Entry
+map_words =
+    record { text = codes "function"; kind = kind.FunctionWord } ∷
+    record { text = codes "global"; kind = kind.GlobalWord } ∷
+    record { text = codes "mutex"; kind = kind.MutexWord } ∷
+    record { text = codes "field"; kind = kind.FieldWord } ∷
+    record { text = codes "init"; kind = kind.InitWord } ∷
+    record { text = codes "point"; kind = kind.PointWord } ∷
+    record { text = codes "check"; kind = kind.CheckWord } ∷
+    record { text = codes "entry"; kind = kind.EntryWord } ∷
+    record { text = codes "loop"; kind = kind.LoopWord } ∷
+    record { text = codes "call"; kind = kind.CallWord } ∷
+    record { text = codes "block"; kind = kind.BlockWord } ∷
+    record { text = codes "none"; kind = kind.NoneWord } ∷
     []
 
 -- the signs, in the order of their numbers

@@ -5,7 +5,7 @@ ghost use Rattle.c_grammar.specs.Effects as spec;
 
 use crate::action::Action;
 use crate::value::Value;
-use crate::{call, constant, decl, expr, item, simple, stmt};
+use crate::{call, constant, decl, entry, expr, fill, item, simple, stmt};
 use std::alloc::{AllocError, Global};
 
 /// Does the action. The newest value is last.
@@ -86,6 +86,19 @@ pub fn act(alloc: Global, action: Action, values: &mut Vec<Value>) -> Result<(),
         Action::Un => expr::unary(alloc, values),
         Action::Cast => expr::cast(alloc, values),
         Action::Bin => expr::binary(alloc, values),
+        Action::StartMapping => entry::start_mapping(alloc, values),
+        Action::MatchEntry => entry::matched(alloc, values),
+        Action::UnmatchedEntry => entry::unmatched(alloc, values),
+        Action::FieldEntry => entry::field(alloc, values),
+        Action::InitEntry => entry::init(alloc, values),
+        Action::PointEntry => entry::point(alloc, values),
+        Action::CheckEntry => entry::check(alloc, values),
+        Action::EntryPt => fill::entry_point(values),
+        Action::NumberPt => fill::numbered_point(values),
+        Action::NoFills => fill::no_fills(alloc, values),
+        Action::MoreFill => fill::more_fills(alloc, values),
+        Action::HiddenName => fill::hidden_name(alloc, values),
+        Action::TempName => fill::temporary_name(alloc, values),
     }
 }
 

@@ -9,8 +9,8 @@ ghost use Rattle.c_grammar.specs.Values as spec;
 use crate::token::text_of;
 use crate::value::{Operand, Value};
 use c_tree::{
-    At, Boxed, Const, Count, Define, Expr, ExprKind, Field, Name, Program, Row, Stmt, StmtKind,
-    Text, Token, TokenKind, Ty,
+    At, Boxed, Const, Count, Define, Expr, ExprKind, Field, Fill, Mapping, Name, PlaceKind,
+    Program, Pt, Row, Stmt, StmtKind, Text, Token, TokenKind, Ty,
 };
 use std::alloc::{AllocError, Global};
 
@@ -251,6 +251,57 @@ pub fn pop_program(alloc: Global, values: &mut Vec<Value>) -> Program
         other => {
             discard(other);
             no_program(alloc)
+        }
+    }
+}
+
+pub fn pop_pt(values: &mut Vec<Value>) -> Pt
+    ensures value { result ≡ spec.pt_in (reverse values.old.items) }
+    ensures rest { reverse values.new.items ≡ spec.older (reverse values.old.items) }
+{
+    match values.pop() {
+        Some(Value::Pt(pt)) => pt,
+        other => {
+            discard(other);
+            Pt {
+                kind: PlaceKind::Entry,
+                number: 1,
+            }
+        }
+    }
+}
+
+pub fn pop_fills(alloc: Global, values: &mut Vec<Value>) -> Row<Fill>
+    ensures value { result ≡ spec.fills_in (reverse values.old.items) }
+    ensures rest { reverse values.new.items ≡ spec.older (reverse values.old.items) }
+{
+    match values.pop() {
+        Some(Value::Fills(fills)) => fills,
+        other => {
+            discard(other);
+            Row::from_vec(Vec::new(alloc))
+        }
+    }
+}
+
+/// A mapping without entries.
+pub fn no_mapping(alloc: Global) -> Mapping
+    ensures { result ≡ spec.no_mapping }
+{
+    Mapping {
+        entries: Row::from_vec(Vec::new(alloc)),
+    }
+}
+
+pub fn pop_mapping(alloc: Global, values: &mut Vec<Value>) -> Mapping
+    ensures value { result ≡ spec.mapping_in (reverse values.old.items) }
+    ensures rest { reverse values.new.items ≡ spec.older (reverse values.old.items) }
+{
+    match values.pop() {
+        Some(Value::Mapping(mapping)) => mapping,
+        other => {
+            discard(other);
+            no_mapping(alloc)
         }
     }
 }

@@ -4,7 +4,7 @@ ghost use Rattle.std.specs.Prelude.{◌≡◌, IfOk};
 ghost use Rattle.c_grammar.specs.Pieces as spec;
 
 use crate::kind::Kind;
-use crate::token::{copy_kind, copy_token, kind_of};
+use crate::token::{copy_kind, copy_token, kind_of, map_kind_of};
 use crate::value::Value;
 use c_tokens::{Lexeme, LexemeKind};
 use c_tree::{At, Define, Token, TokenKind};
@@ -41,6 +41,28 @@ impl Readable for Token {
 
     fn value(&self) -> Result<Value, AllocError> {
         Ok(Value::Word(copy_token(self)?))
+    }
+}
+
+/// A token of a mapping, where more words have a meaning.
+#[derive(Debug, Drop)]
+pub struct MapToken {
+    pub token: Token,
+}
+
+impl Readable for MapToken {
+    ghost piece = { λ m. spec.map_piece m.token };
+
+    fn kind(&self) -> Kind {
+        map_kind_of(&self.token.kind)
+    }
+
+    fn at(&self) -> u32 {
+        self.token.at
+    }
+
+    fn value(&self) -> Result<Value, AllocError> {
+        Ok(Value::Word(copy_token(&self.token)?))
     }
 }
 

@@ -1,10 +1,10 @@
-//! Which operator a sign is.
+//! Which operator a sign is, and what a word of a mapping says.
 
 ghost use Rattle.std.specs.Prelude.{◌≡◌};
 ghost use Rattle.c_grammar.specs.Effects as spec;
 
 use crate::kind::Kind;
-use c_tree::{BinOp, UnOp};
+use c_tree::{BinOp, PlaceKind, UnOp};
 
 /// The operator before an operand.
 pub fn unary_of(kind: Kind) -> UnOp
@@ -69,5 +69,28 @@ pub fn stepped_of(kind: Kind) -> BinOp
     match kind {
         Kind::MinusMinus => BinOp::Sub,
         _ => BinOp::Add,
+    }
+}
+
+/// Which side a match is of: 0 for functions, 1 for structs, 2 for globals, 3 for mutexes.
+pub fn side_of(kind: Kind) -> u8
+    ensures { result ≡ spec.side_of kind }
+{
+    match kind {
+        Kind::Struct => 1,
+        Kind::GlobalWord => 2,
+        Kind::MutexWord => 3,
+        _ => 0,
+    }
+}
+
+/// Which kind of place a point with a number is.
+pub fn place_of(kind: Kind) -> PlaceKind
+    ensures { result ≡ spec.place_of kind }
+{
+    match kind {
+        Kind::LoopWord => PlaceKind::LoopEnd,
+        Kind::CallWord => PlaceKind::Call,
+        _ => PlaceKind::Block,
     }
 }

@@ -4,7 +4,7 @@ ghost use Rattle.std.specs.Prelude.{◌≡◌, IfOk, map};
 ghost use Rattle.c_grammar.specs.Tokens as spec;
 
 use crate::kind::Kind;
-use crate::words::{signs, words};
+use crate::words::{map_words, signs, words};
 use c_tree::{Name, Text, Token, TokenKind};
 use std::alloc::{AllocError, Global};
 
@@ -27,6 +27,17 @@ fn word_kind(word: &Name) -> Kind
     kind_in(words(), word.as_bytes())
 }
 
+/// The kind of a word in a mapping.
+#[tactic(auto, unfolding(crate::specs::Tokens::map_word_kind))]
+fn map_word_kind(word: &Name) -> Kind
+    ensures { result ≡ spec.map_word_kind word.now }
+{
+    match kind_in(map_words(), word.as_bytes()) {
+        Kind::Name => word_kind(word),
+        kind => kind,
+    }
+}
+
 fn sign_kind(place: u8) -> Kind
     ensures { result ≡ spec.sign_kind place }
 {
@@ -46,6 +57,18 @@ pub fn kind_of(token: &TokenKind) -> Kind
         TokenKind::Char(_) => Kind::Char,
         TokenKind::Str(_) => Kind::String,
         TokenKind::Punct(place) => sign_kind(*place),
+    }
+}
+
+/// What the token is in a mapping, where more words have a meaning.
+pub fn map_kind_of(token: &TokenKind) -> Kind
+    ensures { result ≡ spec.map_kind_of token.now }
+{
+    match token {
+        TokenKind::Word(word) => map_word_kind(word),
+        TokenKind::Number(_) | TokenKind::Char(_) | TokenKind::Str(_) | TokenKind::Punct(_) => {
+            kind_of(token)
+        }
     }
 }
 

@@ -1,6 +1,8 @@
 //! The values that are made while a text is read.
 
-use c_tree::{At, Boxed, Const, Count, Define, Expr, Field, Program, Row, Stmt, Token, Ty};
+use c_tree::{
+    At, Boxed, Const, Count, Define, Expr, Field, Fill, Mapping, Program, Pt, Row, Stmt, Token, Ty,
+};
 
 /// An expression, with the offset of the first token that was read for it: of a bracket round it, too.
 #[derive(Drop)]
@@ -25,4 +27,7 @@ pub enum Value {
     Const(At<Const>),
     Define(Define),
     Program(Program),
+    Pt(Pt),
+    Fills(Row<Fill>),
+    Mapping(Mapping),
 }

@@ -1,4 +1,4 @@
-//! The words that are no names, and the signs. Written by tools/reader_tables.py.
+//! The words with a meaning, and the signs. Written by tools/reader_tables.py.
 
 ghost use Rattle.std.specs.Prelude.{◌≡◌, map};
 ghost use Rattle.c_grammar.specs.Words as spec;
@@ -58,6 +58,28 @@ pub fn words() -> &'static [(&'static [u8], Kind)]
         (b"register", Kind::LeftOut),
         (b"auto", Kind::LeftOut),
         (b"inline", Kind::LeftOut),
+    ]
+}
+
+/// The names that have a meaning in mappings, with their kinds.
+#[rattlefmt::skip]
+#[tactic(auto, unfolding(crate::specs::Words::map_words))]
+pub fn map_words() -> &'static [(&'static [u8], Kind)]
+    ensures { map (λ w. record { text = w.0.now; kind = w.1 }) result.now ≡ spec.map_words }
+{
+    &[
+        (b"function", Kind::FunctionWord),
+        (b"global", Kind::GlobalWord),
+        (b"mutex", Kind::MutexWord),
+        (b"field", Kind::FieldWord),
+        (b"init", Kind::InitWord),
+        (b"point", Kind::PointWord),
+        (b"check", Kind::CheckWord),
+        (b"entry", Kind::EntryWord),
+        (b"loop", Kind::LoopWord),
+        (b"call", Kind::CallWord),
+        (b"block", Kind::BlockWord),
+        (b"none", Kind::NoneWord),
     ]
 }
 

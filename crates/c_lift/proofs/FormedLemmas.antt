@@ -255,7 +255,7 @@ main_form file f named e = pick (is_same_name f.name.it (codes "main")) f.ret f.
 pub has_main : (p : Program) → IsWellTyped p → HasMain (lift p)
 has_main p typed =
     subst IsMain (sym (slice_get-map (lift_function p) (definitions p) (function_number p (codes "main")) ∙ ap (option_map (lift_function p)) (number_finds (λ f. f.name) (definitions p) (codes "main") found.function found.is)))
-    (form.0, ap length form.1) where
+    (form.0, ap length form.1, found.same) where
       whole : Parts p
       whole = parts p typed
 

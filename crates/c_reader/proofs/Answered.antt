@@ -110,7 +110,7 @@ met p symbols state fits = go (is_kind kind.LeftOut (Some p.kind)) refl
     go false h = met_named p symbols state fits (λ e. differ (is_kind kind.LeftOut (Some p.kind)) (kind_is p.kind kind.LeftOut e) h)
 
 -- The tokens are a text, have a first fault, or break off.
-abbrev Parsed : List Symbol → List Piece → Type 0
+abbrev pub Parsed : List Symbol → List Piece → Type 0
 Parsed begin ps = ((values : List Value) × IsReading begin ps values) ⊎ (((i : ℕ) × (c : ReadCause) × IsFirst begin ps i c) ⊎ IsCutShort begin ps)
 
 parsed_all : (begin : List Symbol) (ps : List Piece) (i : ℕ) (symbols : List Symbol) (state : State) → length ps ≤ i → FollowsAt begin ps i symbols state → Advanced None symbols state → Parsed begin ps
@@ -129,11 +129,11 @@ parsed_from begin ps (suc n) i symbols state e f =
     go p here (inl (s', v', m)) more = more s' v' (steps_on begin ps i p symbols state s' v' f here m)
     go p here (inr (c, m)) more = inr (inl (i, c, faults_on begin ps i p symbols state c f here m))
 
+pub parsed : (begin : List Symbol) (ps : List Piece) → FitsReader begin → Parsed begin ps
+parsed begin ps fits = parsed_from begin ps (length ps) 0 begin empty (omega arith) (starts_on begin ps begin empty fits refl refl)
+
 fits_start : FitsReader start
 fits_start = (refl, (λ k b m. m, tt))
-
-parsed : (ps : List Piece) → Parsed start ps
-parsed ps = parsed_from start ps (length ps) 0 start empty (omega arith) (starts_on start ps start empty fits_start refl refl)
 
 answered_within : (bytes : List ℕ) → length bytes ≤ 1048576 → Parsed start (pieces_of (scan_of bytes)) → IsAnswered bytes
 answered_within bytes le (inl (values, r)) = go (scan_of bytes).fault refl
@@ -154,5 +154,5 @@ pub answered : (bytes : List ℕ) → IsAnswered bytes
 answered bytes = go (nat_le (length bytes) 1048576) refl
   where
     go : (b : Bool) → nat_le (length bytes) 1048576 ≡ b → IsAnswered bytes
-    go true h = answered_within bytes (leb-true _ _ h) (parsed (pieces_of (scan_of bytes)))
+    go true h = answered_within bytes (leb-true _ _ h) (parsed start (pieces_of (scan_of bytes)) fits_start)
     go false h = inr (1048576, cause.TooLong, too_long (leb-false _ _ h) refl refl)

@@ -202,6 +202,19 @@ done_by action.Group = one (Operand ∷ Any ∷ []) (Operand ∷ [])
 done_by action.Un = one (Operand ∷ Any ∷ []) (Operand ∷ [])
 done_by action.Cast = one (Operand ∷ Pointer ∷ Any ∷ []) (Operand ∷ [])
 done_by action.Bin = one (Operand ∷ Any ∷ Operand ∷ []) (Operand ∷ [])
+done_by action.StartMapping = []
+done_by action.MatchEntry = []
+done_by action.UnmatchedEntry = []
+done_by action.FieldEntry = []
+done_by action.InitEntry = []
+done_by action.PointEntry = []
+done_by action.CheckEntry = []
+done_by action.EntryPt = []
+done_by action.NumberPt = []
+done_by action.NoFills = []
+done_by action.MoreFill = []
+done_by action.HiddenName = []
+done_by action.TempName = []
 
 -- a part of a file, and a level of operators with its tail
 abbrev item : List Deal

@@ -11,9 +11,9 @@ use Rattle.c_tokens.specs.declared.lexeme.LexemeKind.{LexemeKind}
 use Rattle.c_tokens.specs.declared.lexeme.LexemeKind.TheVariants as lexeme
 use Rattle.c_grammar.specs.declared.kind.Kind.{Kind}
 use Rattle.c_grammar.specs.declared.kind.Kind.TheVariants as kind
-use Rattle.c_grammar.specs.Words.{Entry, words, signs}
-use Rattle.c_grammar.specs.Tokens.{kind_in, word_kind, sign_kind, kind_of}
-use Rattle.c_grammar.specs.Pieces.{token_piece, piece_of, lexeme_piece}
+use Rattle.c_grammar.specs.Words.{Entry, words, map_words, signs}
+use Rattle.c_grammar.specs.Tokens.{kind_in, word_kind, meant_or, map_word_kind, sign_kind, kind_of, map_kind_of}
+use Rattle.c_grammar.specs.Pieces.{token_piece, map_piece, piece_of, lexeme_piece}
 use Rattle.c_reader.proofs.Choice.{both_left, both_right}
 use Rattle.c_reader.proofs.Sorts.{sort_of, kept_sort}
 use Rattle.c_reader.proofs.Sorts as sort
@@ -66,6 +66,24 @@ kind_plain (token.Punct place) = sign_plain place
 
 pub kept_token : (t : Token) → sort_of (token_piece t).value ≡ kept_sort (token_piece t).kind
 kept_token t = plain_kept (kind_of t.kind) (kind_plain t.kind)
+
+meant_plain : (k : Kind) (word : List ℕ) → is_plain k ≡ true → is_plain (meant_or k word) ≡ true
+meant_plain kind.Name word h = word_plain word
+meant_plain k word h = h
+
+map_word_plain : (word : List ℕ) → is_plain (map_word_kind word) ≡ true
+unfolding map_word_kind map_words
+map_word_plain word = meant_plain (kind_in map_words word) word (kind_in_plain map_words word refl)
+
+map_kind_plain : (k : TokenKind) → is_plain (map_kind_of k) ≡ true
+map_kind_plain (token.Word word) = map_word_plain word
+map_kind_plain (token.Number number) = refl
+map_kind_plain (token.Char code) = refl
+map_kind_plain (token.Str text) = refl
+map_kind_plain (token.Punct place) = sign_plain place
+
+pub kept_map_token : (t : Token) → sort_of (map_piece t).value ≡ kept_sort (map_piece t).kind
+kept_map_token t = plain_kept (map_kind_of t.kind) (map_kind_plain t.kind)
 
 kept_kind : (k : LexemeKind) (at len : ℕ) → sort_of (piece_of k at len).value ≡ kept_sort (piece_of k at len).kind
 kept_kind (lexeme.Token k) at len = plain_kept (kind_of k) (kind_plain k)

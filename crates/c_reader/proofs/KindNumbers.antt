@@ -87,6 +87,18 @@ tag_code kind.Semicolon = refl
 tag_code kind.Dot = refl
 tag_code kind.Question = refl
 tag_code kind.Colon = refl
+tag_code kind.FunctionWord = refl
+tag_code kind.GlobalWord = refl
+tag_code kind.MutexWord = refl
+tag_code kind.FieldWord = refl
+tag_code kind.InitWord = refl
+tag_code kind.PointWord = refl
+tag_code kind.CheckWord = refl
+tag_code kind.EntryWord = refl
+tag_code kind.LoopWord = refl
+tag_code kind.CallWord = refl
+tag_code kind.BlockWord = refl
+tag_code kind.NoneWord = refl
 
 pub decided : (k n : Kind) (ahead : Option Kind) → ahead ≡ Some n → nat_eq (tag_of the_type k) (tag_of the_type n) ≡ is_kind k ahead
 decided k n ahead e = ap (λ x. nat_eq x (tag_of the_type n)) (tag_code k) ∙ ap (λ x. nat_eq (code k) x) (tag_code n) ∙ ap (λ o. is_kind k o) (sym e)

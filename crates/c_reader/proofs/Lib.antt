@@ -7,12 +7,12 @@ mod Factoring
 mod Sorts
 mod SortRuns
 mod SortTables
-mod Trees
+pub mod Trees
 mod Depths
-mod Outcomes
-mod Kept
-mod Sources
-mod Answered
+pub mod Outcomes
+pub mod Kept
+pub mod Sources
+pub mod Answered
 mod Fronts
 mod NearestElse
 mod Forms

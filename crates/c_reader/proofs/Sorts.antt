@@ -24,6 +24,9 @@ pub data Sort : Type 0 where
   Const : Sort
   Define : Sort
   Program : Sort
+  Pt : Sort
+  Fills : Sort
+  Mapping : Sort
 
 abbrev pub sort_of : Value → Sort
 sort_of (value.Word x) = Word
@@ -39,6 +42,9 @@ sort_of (value.Count x) = Count
 sort_of (value.Const x) = Const
 sort_of (value.Define x) = Define
 sort_of (value.Program x) = Program
+sort_of (value.Pt x) = Pt
+sort_of (value.Fills x) = Fills
+sort_of (value.Mapping x) = Mapping
 
 -- the sort of a token that is kept
 abbrev pub kept_sort : Kind → Sort
@@ -117,6 +123,19 @@ wants action.Group = Operand ∷ Word ∷ []
 wants action.Un = Operand ∷ Word ∷ []
 wants action.Cast = Operand ∷ Ty ∷ Word ∷ []
 wants action.Bin = Operand ∷ Word ∷ Operand ∷ []
+wants action.StartMapping = []
+wants action.MatchEntry = Word ∷ Word ∷ Word ∷ Mapping ∷ []
+wants action.UnmatchedEntry = Word ∷ Word ∷ Mapping ∷ []
+wants action.FieldEntry = Operand ∷ Word ∷ Word ∷ Word ∷ Mapping ∷ []
+wants action.InitEntry = Operand ∷ Word ∷ Word ∷ Mapping ∷ []
+wants action.PointEntry = Fills ∷ Pt ∷ Pt ∷ Word ∷ Word ∷ Mapping ∷ []
+wants action.CheckEntry = Operand ∷ Word ∷ Mapping ∷ []
+wants action.EntryPt = []
+wants action.NumberPt = Word ∷ Word ∷ []
+wants action.NoFills = []
+wants action.MoreFill = Operand ∷ Word ∷ Fills ∷ []
+wants action.HiddenName = Word ∷ Word ∷ []
+wants action.TempName = Word ∷ []
 
 abbrev pub makes : Action → List Sort
 makes action.Leave = []
@@ -190,6 +209,19 @@ makes action.Group = Operand ∷ []
 makes action.Un = Operand ∷ []
 makes action.Cast = Operand ∷ []
 makes action.Bin = Operand ∷ []
+makes action.StartMapping = Mapping ∷ []
+makes action.MatchEntry = Mapping ∷ []
+makes action.UnmatchedEntry = Mapping ∷ []
+makes action.FieldEntry = Mapping ∷ []
+makes action.InitEntry = Mapping ∷ []
+makes action.PointEntry = Mapping ∷ []
+makes action.CheckEntry = Mapping ∷ []
+makes action.EntryPt = Pt ∷ []
+makes action.NumberPt = Pt ∷ []
+makes action.NoFills = Fills ∷ []
+makes action.MoreFill = Fills ∷ []
+makes action.HiddenName = Word ∷ []
+makes action.TempName = Word ∷ []
 
 abbrev pub takes : Rule → List Sort
 takes rule.Items = Program ∷ []
@@ -245,6 +277,19 @@ takes rule.UnOp = []
 takes rule.CastType = []
 takes rule.MapUnary = []
 takes rule.MapName = Word ∷ []
+takes rule.MapArrows = Operand ∷ []
+takes rule.AnyName = []
+takes rule.NewName = []
+takes rule.Entries = Mapping ∷ []
+takes rule.Entry = Mapping ∷ []
+takes rule.Side = []
+takes rule.Target = Word ∷ Word ∷ Mapping ∷ []
+takes rule.Pt = []
+takes rule.PtWord = []
+takes rule.Fills = []
+takes rule.FillList = Fills ∷ []
+takes rule.FillName = []
+takes rule.FillNumber = Word ∷ []
 takes rule.Mul = []
 takes rule.MulTail = Operand ∷ []
 takes rule.Add = []
@@ -364,6 +409,19 @@ gives rule.UnOp = Word ∷ []
 gives rule.CastType = Ty ∷ []
 gives rule.MapUnary = Operand ∷ []
 gives rule.MapName = Operand ∷ []
+gives rule.MapArrows = Operand ∷ []
+gives rule.AnyName = Word ∷ []
+gives rule.NewName = Word ∷ []
+gives rule.Entries = Mapping ∷ []
+gives rule.Entry = Mapping ∷ []
+gives rule.Side = Word ∷ []
+gives rule.Target = Mapping ∷ []
+gives rule.Pt = Pt ∷ []
+gives rule.PtWord = Word ∷ []
+gives rule.Fills = Fills ∷ []
+gives rule.FillList = Fills ∷ []
+gives rule.FillName = Word ∷ []
+gives rule.FillNumber = Word ∷ []
 gives rule.Mul = Operand ∷ []
 gives rule.MulTail = Operand ∷ []
 gives rule.Add = Operand ∷ []
@@ -444,9 +502,12 @@ sort_code Count = 9
 sort_code Const = 10
 sort_code Define = 11
 sort_code Program = 12
+sort_code Pt = 13
+sort_code Fills = 14
+sort_code Mapping = 15
 
 abbrev pub sort_from : ℕ → Option Sort
-sort_from n = cond (nat_eq n 0) (Some Word) (cond (nat_eq n 1) (Some Ty) (cond (nat_eq n 2) (Some Operand) (cond (nat_eq n 3) (Some Exprs) (cond (nat_eq n 4) (Some MaybeExpr) (cond (nat_eq n 5) (Some Stmt) (cond (nat_eq n 6) (Some Stmts) (cond (nat_eq n 7) (Some MaybeStmt) (cond (nat_eq n 8) (Some Fields) (cond (nat_eq n 9) (Some Count) (cond (nat_eq n 10) (Some Const) (cond (nat_eq n 11) (Some Define) (Some Program))))))))))))
+sort_from n = cond (nat_eq n 0) (Some Word) (cond (nat_eq n 1) (Some Ty) (cond (nat_eq n 2) (Some Operand) (cond (nat_eq n 3) (Some Exprs) (cond (nat_eq n 4) (Some MaybeExpr) (cond (nat_eq n 5) (Some Stmt) (cond (nat_eq n 6) (Some Stmts) (cond (nat_eq n 7) (Some MaybeStmt) (cond (nat_eq n 8) (Some Fields) (cond (nat_eq n 9) (Some Count) (cond (nat_eq n 10) (Some Const) (cond (nat_eq n 11) (Some Define) (cond (nat_eq n 12) (Some Program) (cond (nat_eq n 13) (Some Pt) (cond (nat_eq n 14) (Some Fills) (Some Mapping)))))))))))))))
 
 pub sort_back : (s : Sort) → sort_from (sort_code s) ≡ Some s
 sort_back Word = refl
@@ -462,3 +523,6 @@ sort_back Count = refl
 sort_back Const = refl
 sort_back Define = refl
 sort_back Program = refl
+sort_back Pt = refl
+sort_back Fills = refl
+sort_back Mapping = refl

@@ -6,8 +6,8 @@ use Rattle.c_grammar.specs.declared.symbol.Symbol.TheVariants.{Take, Unless, Act
 use Rattle.c_grammar.specs.declared.value.Value.{Value}
 use Rattle.c_grammar.specs.declared.value.Value.TheVariants as value
 use Rattle.c_grammar.specs.Marks.{keeps}
-use Rattle.c_grammar.specs.Rules.{alternatives, start, expr_start}
-use Rattle.c_grammar.specs.Values.{program_in, operand_in}
+use Rattle.c_grammar.specs.Rules.{alternatives, start, expr_start, map_start}
+use Rattle.c_grammar.specs.Values.{program_in, operand_in, mapping_in}
 use Rattle.c_grammar.specs.Effects.{State, empty}
 use Rattle.c_grammar.specs.Pieces.{Piece}
 use Rattle.c_grammar.specs.Reading.{Test, Aim, Part, Whole, Accepts, Goes, stop, end, take_token, pass, act, expand}
@@ -94,3 +94,13 @@ one_operand (v ∷ []) e = cc
 -- What an expression leaves is one tree.
 pub expr_is : (values : List Value) (ps : List Piece) → AllKept ps → Goes alternatives (Whole values) expr_start empty ps → values ≡ value.Operand (operand_in values) ∷ []
 expr_is values ps w g = one_operand values (goes_typed sort.Operand w g ([], refl, refl))
+
+one_mapping : (vs : List Value) → sorts vs ≡ sort.Mapping ∷ [] → vs ≡ value.Mapping (mapping_in vs) ∷ []
+one_mapping [] e = cc
+one_mapping (value.Mapping m ∷ []) e = refl
+one_mapping (v ∷ w ∷ vs) e = cc
+one_mapping (v ∷ []) e = cc
+
+-- What a whole mapping leaves is one mapping.
+pub mapping_is : (values : List Value) (ps : List Piece) → AllKept ps → Goes alternatives (Whole values) map_start empty ps → values ≡ value.Mapping (mapping_in values) ∷ []
+mapping_is values ps w g = one_mapping values (goes_typed sort.Mapping w g ([], refl, ([], refl, refl)))

@@ -159,7 +159,7 @@ expand_changed ahead r symbols values front fits found = record {
     there = λ aim ts a g. let p = picked ahead r symbols values fits aim ts a g in subst (λ f. Goes choices aim (f ++ symbols) values ts) (some_is (sym p.2 ∙ found)) p.3;
     back = λ aim ts a g. expand member g;
   };
-  fits = fits_after all_kinds kind_place choices first_kinds blocked_kinds used_rules tables_good tables_good_end kind.Name symbols fits member;
+  fits = fits_after all_kinds kind_place choices first_kinds blocked_kinds used_rules tables_good tables_good_end kind.Name {r = r} {front = front} symbols fits member;
   less = less;
 }
   where

@@ -132,6 +132,18 @@ code kind.Semicolon = 74
 code kind.Dot = 75
 code kind.Question = 76
 code kind.Colon = 77
+code kind.FunctionWord = 78
+code kind.GlobalWord = 79
+code kind.MutexWord = 80
+code kind.FieldWord = 81
+code kind.InitWord = 82
+code kind.PointWord = 83
+code kind.CheckWord = 84
+code kind.EntryWord = 85
+code kind.LoopWord = 86
+code kind.CallWord = 87
+code kind.BlockWord = 88
+code kind.NoneWord = 89
 
 -- the kinds that a rule's texts begin with
 abbrev pub first_kinds : Rule → List Kind
@@ -213,8 +225,35 @@ first_kinds rule.Unary = kind.LeftParen ∷ kind.Number ∷ kind.Char ∷ kind.N
 first_kinds rule.UnOp = kind.Minus ∷ kind.Bang ∷ kind.Tilde ∷ []
 first_kinds rule.CastType = kind.Struct ∷ kind.Void ∷ []
 first_kinds rule.MapUnary = kind.Minus ∷ kind.Bang ∷ kind.Tilde ∷ kind.Number ∷ kind.Char ∷ kind.Null ∷
-    kind.Eof ∷ kind.LeftParen ∷ kind.Name ∷ kind.Dot ∷ []
+    kind.Eof ∷ kind.LeftParen ∷ kind.Dot ∷ kind.NoneWord ∷ kind.Name ∷ kind.FunctionWord ∷ kind.GlobalWord ∷
+    kind.MutexWord ∷ kind.FieldWord ∷ kind.InitWord ∷ kind.PointWord ∷ kind.CheckWord ∷ kind.EntryWord ∷
+    kind.LoopWord ∷ kind.CallWord ∷ kind.BlockWord ∷ []
 first_kinds rule.MapName = kind.LeftBracket ∷ kind.Dot ∷ []
+first_kinds rule.MapArrows = kind.Arrow ∷ []
+first_kinds rule.AnyName = kind.NoneWord ∷ kind.Name ∷ kind.FunctionWord ∷ kind.GlobalWord ∷ kind.MutexWord ∷
+    kind.FieldWord ∷ kind.InitWord ∷ kind.PointWord ∷ kind.CheckWord ∷ kind.EntryWord ∷ kind.LoopWord ∷
+    kind.CallWord ∷ kind.BlockWord ∷ []
+first_kinds rule.NewName = kind.Name ∷ kind.FunctionWord ∷ kind.GlobalWord ∷ kind.MutexWord ∷
+    kind.FieldWord ∷ kind.InitWord ∷ kind.PointWord ∷ kind.CheckWord ∷ kind.EntryWord ∷ kind.LoopWord ∷
+    kind.CallWord ∷ kind.BlockWord ∷ []
+first_kinds rule.Entries = kind.FieldWord ∷ kind.InitWord ∷ kind.PointWord ∷ kind.CheckWord ∷
+    kind.FunctionWord ∷ kind.Struct ∷ kind.GlobalWord ∷ kind.MutexWord ∷ []
+first_kinds rule.Entry = kind.FieldWord ∷ kind.InitWord ∷ kind.PointWord ∷ kind.CheckWord ∷
+    kind.FunctionWord ∷ kind.Struct ∷ kind.GlobalWord ∷ kind.MutexWord ∷ []
+first_kinds rule.Side = kind.FunctionWord ∷ kind.Struct ∷ kind.GlobalWord ∷ kind.MutexWord ∷ []
+first_kinds rule.Target = kind.Name ∷ kind.FunctionWord ∷ kind.GlobalWord ∷ kind.MutexWord ∷ kind.FieldWord ∷
+    kind.InitWord ∷ kind.PointWord ∷ kind.CheckWord ∷ kind.EntryWord ∷ kind.LoopWord ∷ kind.CallWord ∷
+    kind.BlockWord ∷ kind.NoneWord ∷ []
+first_kinds rule.Pt = kind.EntryWord ∷ kind.LoopWord ∷ kind.CallWord ∷ kind.BlockWord ∷ []
+first_kinds rule.PtWord = kind.LoopWord ∷ kind.CallWord ∷ kind.BlockWord ∷ []
+first_kinds rule.Fills = kind.LeftBrace ∷ []
+first_kinds rule.FillList = kind.NoneWord ∷ kind.Dot ∷ kind.Name ∷ kind.FunctionWord ∷ kind.GlobalWord ∷
+    kind.MutexWord ∷ kind.FieldWord ∷ kind.InitWord ∷ kind.PointWord ∷ kind.CheckWord ∷ kind.EntryWord ∷
+    kind.LoopWord ∷ kind.CallWord ∷ kind.BlockWord ∷ []
+first_kinds rule.FillName = kind.NoneWord ∷ kind.Dot ∷ kind.Name ∷ kind.FunctionWord ∷ kind.GlobalWord ∷
+    kind.MutexWord ∷ kind.FieldWord ∷ kind.InitWord ∷ kind.PointWord ∷ kind.CheckWord ∷ kind.EntryWord ∷
+    kind.LoopWord ∷ kind.CallWord ∷ kind.BlockWord ∷ []
+first_kinds rule.FillNumber = kind.Dot ∷ []
 first_kinds rule.Mul = kind.LeftParen ∷ kind.Number ∷ kind.Char ∷ kind.Null ∷ kind.Eof ∷ kind.Malloc ∷
     kind.Getchar ∷ kind.Create ∷ kind.Join ∷ kind.Lock ∷ kind.Unlock ∷ kind.Name ∷ kind.Minus ∷ kind.Bang ∷
     kind.Tilde ∷ []
@@ -256,34 +295,54 @@ first_kinds rule.Expr = kind.LeftParen ∷ kind.Number ∷ kind.Char ∷ kind.Nu
     kind.Tilde ∷ []
 first_kinds rule.ExprTail = kind.OrOr ∷ []
 first_kinds rule.MapMul = kind.Minus ∷ kind.Bang ∷ kind.Tilde ∷ kind.Number ∷ kind.Char ∷ kind.Null ∷
-    kind.Eof ∷ kind.LeftParen ∷ kind.Name ∷ kind.Dot ∷ []
+    kind.Eof ∷ kind.LeftParen ∷ kind.Dot ∷ kind.NoneWord ∷ kind.Name ∷ kind.FunctionWord ∷ kind.GlobalWord ∷
+    kind.MutexWord ∷ kind.FieldWord ∷ kind.InitWord ∷ kind.PointWord ∷ kind.CheckWord ∷ kind.EntryWord ∷
+    kind.LoopWord ∷ kind.CallWord ∷ kind.BlockWord ∷ []
 first_kinds rule.MapMulTail = kind.Star ∷ kind.Slash ∷ kind.Percent ∷ []
 first_kinds rule.MapAdd = kind.Minus ∷ kind.Bang ∷ kind.Tilde ∷ kind.Number ∷ kind.Char ∷ kind.Null ∷
-    kind.Eof ∷ kind.LeftParen ∷ kind.Name ∷ kind.Dot ∷ []
+    kind.Eof ∷ kind.LeftParen ∷ kind.Dot ∷ kind.NoneWord ∷ kind.Name ∷ kind.FunctionWord ∷ kind.GlobalWord ∷
+    kind.MutexWord ∷ kind.FieldWord ∷ kind.InitWord ∷ kind.PointWord ∷ kind.CheckWord ∷ kind.EntryWord ∷
+    kind.LoopWord ∷ kind.CallWord ∷ kind.BlockWord ∷ []
 first_kinds rule.MapAddTail = kind.Plus ∷ kind.Minus ∷ []
 first_kinds rule.MapShift = kind.Minus ∷ kind.Bang ∷ kind.Tilde ∷ kind.Number ∷ kind.Char ∷ kind.Null ∷
-    kind.Eof ∷ kind.LeftParen ∷ kind.Name ∷ kind.Dot ∷ []
+    kind.Eof ∷ kind.LeftParen ∷ kind.Dot ∷ kind.NoneWord ∷ kind.Name ∷ kind.FunctionWord ∷ kind.GlobalWord ∷
+    kind.MutexWord ∷ kind.FieldWord ∷ kind.InitWord ∷ kind.PointWord ∷ kind.CheckWord ∷ kind.EntryWord ∷
+    kind.LoopWord ∷ kind.CallWord ∷ kind.BlockWord ∷ []
 first_kinds rule.MapShiftTail = kind.ShiftLeft ∷ kind.ShiftRight ∷ []
 first_kinds rule.MapOrder = kind.Minus ∷ kind.Bang ∷ kind.Tilde ∷ kind.Number ∷ kind.Char ∷ kind.Null ∷
-    kind.Eof ∷ kind.LeftParen ∷ kind.Name ∷ kind.Dot ∷ []
+    kind.Eof ∷ kind.LeftParen ∷ kind.Dot ∷ kind.NoneWord ∷ kind.Name ∷ kind.FunctionWord ∷ kind.GlobalWord ∷
+    kind.MutexWord ∷ kind.FieldWord ∷ kind.InitWord ∷ kind.PointWord ∷ kind.CheckWord ∷ kind.EntryWord ∷
+    kind.LoopWord ∷ kind.CallWord ∷ kind.BlockWord ∷ []
 first_kinds rule.MapOrderTail = kind.Less ∷ kind.LessEqual ∷ kind.Greater ∷ kind.GreaterEqual ∷ []
 first_kinds rule.MapEqual = kind.Minus ∷ kind.Bang ∷ kind.Tilde ∷ kind.Number ∷ kind.Char ∷ kind.Null ∷
-    kind.Eof ∷ kind.LeftParen ∷ kind.Name ∷ kind.Dot ∷ []
+    kind.Eof ∷ kind.LeftParen ∷ kind.Dot ∷ kind.NoneWord ∷ kind.Name ∷ kind.FunctionWord ∷ kind.GlobalWord ∷
+    kind.MutexWord ∷ kind.FieldWord ∷ kind.InitWord ∷ kind.PointWord ∷ kind.CheckWord ∷ kind.EntryWord ∷
+    kind.LoopWord ∷ kind.CallWord ∷ kind.BlockWord ∷ []
 first_kinds rule.MapEqualTail = kind.EqualEqual ∷ kind.NotEqual ∷ []
 first_kinds rule.MapBitAnd = kind.Minus ∷ kind.Bang ∷ kind.Tilde ∷ kind.Number ∷ kind.Char ∷ kind.Null ∷
-    kind.Eof ∷ kind.LeftParen ∷ kind.Name ∷ kind.Dot ∷ []
+    kind.Eof ∷ kind.LeftParen ∷ kind.Dot ∷ kind.NoneWord ∷ kind.Name ∷ kind.FunctionWord ∷ kind.GlobalWord ∷
+    kind.MutexWord ∷ kind.FieldWord ∷ kind.InitWord ∷ kind.PointWord ∷ kind.CheckWord ∷ kind.EntryWord ∷
+    kind.LoopWord ∷ kind.CallWord ∷ kind.BlockWord ∷ []
 first_kinds rule.MapBitAndTail = kind.And ∷ []
 first_kinds rule.MapBitXor = kind.Minus ∷ kind.Bang ∷ kind.Tilde ∷ kind.Number ∷ kind.Char ∷ kind.Null ∷
-    kind.Eof ∷ kind.LeftParen ∷ kind.Name ∷ kind.Dot ∷ []
+    kind.Eof ∷ kind.LeftParen ∷ kind.Dot ∷ kind.NoneWord ∷ kind.Name ∷ kind.FunctionWord ∷ kind.GlobalWord ∷
+    kind.MutexWord ∷ kind.FieldWord ∷ kind.InitWord ∷ kind.PointWord ∷ kind.CheckWord ∷ kind.EntryWord ∷
+    kind.LoopWord ∷ kind.CallWord ∷ kind.BlockWord ∷ []
 first_kinds rule.MapBitXorTail = kind.Xor ∷ []
 first_kinds rule.MapBitOr = kind.Minus ∷ kind.Bang ∷ kind.Tilde ∷ kind.Number ∷ kind.Char ∷ kind.Null ∷
-    kind.Eof ∷ kind.LeftParen ∷ kind.Name ∷ kind.Dot ∷ []
+    kind.Eof ∷ kind.LeftParen ∷ kind.Dot ∷ kind.NoneWord ∷ kind.Name ∷ kind.FunctionWord ∷ kind.GlobalWord ∷
+    kind.MutexWord ∷ kind.FieldWord ∷ kind.InitWord ∷ kind.PointWord ∷ kind.CheckWord ∷ kind.EntryWord ∷
+    kind.LoopWord ∷ kind.CallWord ∷ kind.BlockWord ∷ []
 first_kinds rule.MapBitOrTail = kind.Or ∷ []
 first_kinds rule.MapAndAnd = kind.Minus ∷ kind.Bang ∷ kind.Tilde ∷ kind.Number ∷ kind.Char ∷ kind.Null ∷
-    kind.Eof ∷ kind.LeftParen ∷ kind.Name ∷ kind.Dot ∷ []
+    kind.Eof ∷ kind.LeftParen ∷ kind.Dot ∷ kind.NoneWord ∷ kind.Name ∷ kind.FunctionWord ∷ kind.GlobalWord ∷
+    kind.MutexWord ∷ kind.FieldWord ∷ kind.InitWord ∷ kind.PointWord ∷ kind.CheckWord ∷ kind.EntryWord ∷
+    kind.LoopWord ∷ kind.CallWord ∷ kind.BlockWord ∷ []
 first_kinds rule.MapAndAndTail = kind.AndAnd ∷ []
 first_kinds rule.MapExpr = kind.Minus ∷ kind.Bang ∷ kind.Tilde ∷ kind.Number ∷ kind.Char ∷ kind.Null ∷
-    kind.Eof ∷ kind.LeftParen ∷ kind.Name ∷ kind.Dot ∷ []
+    kind.Eof ∷ kind.LeftParen ∷ kind.Dot ∷ kind.NoneWord ∷ kind.Name ∷ kind.FunctionWord ∷ kind.GlobalWord ∷
+    kind.MutexWord ∷ kind.FieldWord ∷ kind.InitWord ∷ kind.PointWord ∷ kind.CheckWord ∷ kind.EntryWord ∷
+    kind.LoopWord ∷ kind.CallWord ∷ kind.BlockWord ∷ []
 first_kinds rule.MapExprTail = kind.OrOr ∷ []
 first_kinds rule.MulOp = kind.Star ∷ kind.Slash ∷ kind.Percent ∷ []
 first_kinds rule.AddOp = kind.Plus ∷ kind.Minus ∷ []

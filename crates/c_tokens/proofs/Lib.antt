@@ -4,6 +4,7 @@ pub mod Quoting
 pub mod Numbers
 pub mod Sizes
 pub mod Listing
+pub mod TextScanning
 pub mod Examples
 pub mod Lines
 pub mod Scanning

@@ -9,6 +9,7 @@ pub mod Tokens
 pub mod Directive
 pub mod Piece
 pub mod Source
+pub mod Text
 pub mod Compute
 pub mod Reads
 pub mod Scans

@@ -16,6 +16,7 @@ mod piece;
 mod quoted;
 mod refused;
 mod source;
+mod text_scan;
 mod token_list;
 mod word;
 
@@ -26,6 +27,7 @@ pub use laws::{
 pub use lexeme::{Lexeme, LexemeKind, Scan};
 pub use refused::ReadRefused;
 pub use source::scan;
+pub use text_scan::{TextScan, scan_text};
 pub use token_list::tokens;
 pub use word::{is_left_out, is_name};
 

@@ -1,5 +1,5 @@
 -- What each lifting of a well-typed program keeps, and all that is done with one rests on.
-use Rattle.std.specs.Prelude.{◌≡◌, ℕ, ◌+◌, ◌<◌, ◌≤◌, pos, Bool, true, false, ◌&&◌, is_some, IsTrue, if◌then◌else◌, ⊤, List, [], ◌∷◌, map, length, take, slice_get, sum, All, Option, Some, None}
+use Rattle.std.specs.Prelude.{◌≡◌, ℕ, ◌+◌, ◌<◌, ◌≤◌, pos, Bool, true, false, ◌&&◌, is_some, IsTrue, if◌then◌else◌, ⊤, List, [], ◌∷◌, map, length, take, slice_get, sum, All, Option, Some, None, codes}
 use Rattle.std.specs.List.{AllZip, IsDistinct}
 use Rattle.c_tree.specs.declared.ty.Ty.{Ty}
 use Rattle.c_tree.specs.declared.ty.Ty.TheVariants as ty
@@ -228,10 +228,10 @@ HasDifferentSlots p = All (λ f. AreDifferent (map (λ x. x.name) f.slots)) p.fu
 abbrev pub ParametersComeFirst : Lifted → Type 0
 ParametersComeFirst p = All (λ f. f.params ≤ length f.slots) p.functions
 
--- `main` lies inside; it is an `int` without parameters
+-- `main` lies inside; it is an `int` without parameters, and has that name
 abbrev pub IsMain : Option LFunction → Type 0
 IsMain None = ⊥
-IsMain (Some f) = (f.ret ≡ ty.Int) × (f.params ≡ 0)
+IsMain (Some f) = (f.ret ≡ ty.Int) × (f.params ≡ 0) × (is_same_name f.name (codes "main") ≡ true)
 
 abbrev pub HasMain : Lifted → Type 0
 HasMain p = IsMain (slice_get p.functions p.main)

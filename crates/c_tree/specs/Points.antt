@@ -2,6 +2,7 @@
 use Rattle.std.specs.Prelude.{ℕ, zero, suc, ◌+◌, Bool, true, false, List, [], ◌++◌, length, map, filter, take, count_by, slice_get, Option, Some, None, codes}
 use Rattle.std.specs.List.{enumerate_from, flat_map, range_with_len}
 use Rattle.std.specs.Fmt.{decimal}
+use Rattle.c_tree.specs.declared.lifted.LFunction.{LFunction}
 use Rattle.c_tree.specs.declared.lifted.Lifted.{Lifted}
 use Rattle.c_tree.specs.declared.lifted.LStmt.TheVariants as s
 use Rattle.c_tree.specs.declared.place.Act.{Act}
@@ -10,6 +11,7 @@ use Rattle.c_tree.specs.declared.place.Follow.{Follow}
 use Rattle.c_tree.specs.declared.place.Place.{Place}
 use Rattle.c_tree.specs.declared.place.PlaceKind.{PlaceKind}
 use Rattle.c_tree.specs.declared.place.PlaceKind.TheVariants as kind
+use Rattle.c_tree.specs.declared.mapping.Pt.{Pt}
 use Rattle.c_tree.specs.Layout.{nowhere, places}
 
 -- the place of a number
@@ -60,6 +62,25 @@ kth numbers (suc k) = slice_get numbers k
 -- the k-th place of a kind
 abbrev pub find_place : List Place → PlaceKind → ℕ → Option ℕ
 find_place places kind k = kth (of_kind kind places) k
+
+-- the place of a function that a point names, and the point of a place
+abbrev pub place_of : LFunction → Pt → Option ℕ
+place_of f pt = find_place (places f) pt.kind pt.number
+
+abbrev pub point_of : LFunction → ℕ → Pt
+point_of f n = record { kind = kind_at (places f) n; number = number_of (places f) n }
+
+-- the kind of a function's place
+abbrev pub kind_in : LFunction → ℕ → PlaceKind
+kind_in f n = kind_at (places f) n
+
+-- the function that is called at a place
+abbrev pub callee_in : Act → Option ℕ
+callee_in (Do (s.Call to f args)) = Some f
+callee_in _ = None
+
+abbrev pub callee_at : LFunction → ℕ → Option ℕ
+callee_at f n = callee_in (nth (places f) n).act
 
 -- what the k-th point of a kind is called; a plain place is no point
 abbrev pub point : PlaceKind → ℕ → Option (List ℕ)

@@ -10,7 +10,7 @@ ghost use Rattle.store_mem.specs.Memory.{memory_of};
 use crate::refusal::StoreEnd;
 use crate::{globals, heap, mutexes};
 use c_tree::value::field_of;
-use c_tree::{Heap, Input, Lifted, Row, State, Text, Trap};
+use c_tree::{Heap, Input, Lifted, Object, Row, State, Text, Trap};
 use std::alloc::{AllocError, Global};
 use std::marker::Model;
 
@@ -88,6 +88,13 @@ impl Store {
         globals::read(self.globals.as_slice(), global, index)
     }
 
+    /// The values of the globals: one of a scalar, and all of an array.
+    pub fn globals(&self) -> &[Row<i32>]
+        ensures { result.now ≡ self.now.state.globals }
+    {
+        self.globals.as_slice()
+    }
+
     /// Writes a value of a global where it can be read.
     pub fn write(&mut self, global: u32, index: i32, value: i32) -> Result<(), Trap>
         ensures { Leaves result self.old self.new
@@ -142,6 +149,13 @@ impl Store {
         ensures few { result ≤ 1000000 }
     {
         self.heap.objects.len() as u32
+    }
+
+    /// The object of number i + 1 at i. None where it was freed.
+    pub fn heap(&self) -> &[Option<Object>]
+        ensures { result.now ≡ self.now.state.heap.objects }
+    {
+        self.heap.objects.as_slice()
     }
 
     /// The struct of an object. None where it was freed, and where there never was one of this

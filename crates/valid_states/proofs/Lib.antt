@@ -8,3 +8,14 @@ pub mod States
 pub mod First
 pub mod Steps
 pub mod Runs
+pub mod PlaceKinds
+pub mod TypedValues
+pub mod Filled
+pub mod MappedParts
+pub mod MappedStacks
+pub mod ValidUpdate
+pub mod SoundFits
+pub mod Matched
+pub mod Forms
+pub mod SoundUpdate
+pub mod UnchangedPlaces

@@ -1,15 +1,18 @@
 -- What holds of every state of a run.
-use Rattle.std.specs.Prelude.{◌≡◌, ◌≢◌, ℕ, List, Some, None}
+use Rattle.std.specs.Prelude.{◌≡◌, ◌≢◌, ℕ, List, Some, None, Ok}
 use Rattle.c_tree.specs.declared.lifted.Lifted.{Lifted}
 use Rattle.c_tree.specs.declared.state.State.{State}
 use Rattle.c_tree.specs.declared.run.Phase.TheVariants as phase
 use Rattle.c_tree.specs.declared.run.Settings.{Settings}
 use Rattle.c_tree.specs.declared.event.Event.{Event}
+use Rattle.c_tree.specs.declared.mapping.Patch.{Patch}
 use Rattle.c_tree.specs.Start.{start}
 use Rattle.c_tree.specs.Step.{Done, step}
 use Rattle.c_tree.specs.Run.{Core, run}
 use Rattle.c_tree.specs.Formed.{IsFormed}
 use Rattle.c_tree.specs.Valid.{Valid}
+use Rattle.c_tree.specs.Sound.{Sound}
+use Rattle.c_tree.specs.Update.{update}
 
 -- the first state is valid
 abbrev pub StartIsValid : Type 0
@@ -27,3 +30,8 @@ RunsStayValid = (k : Settings) (events : List Event) (c : Core) → IsFormed k.p
 abbrev pub RunsStayValidUntilUpdate : Type 0
 RunsStayValidUntilUpdate =
     (k : Settings) (events : List Event) (c : Core) → IsFormed k.program → run k events ≡ Some c → c.phase ≢ phase.Updated → (c.program ≡ k.program) × Valid k.program c.state
+
+-- an update by a sound patch leads from a valid state of the old program to a valid one of the new
+abbrev pub UpdatesStayValid : Type 0
+UpdatesStayValid =
+    (patch : Patch) (s next : State) → IsFormed patch.old → IsFormed patch.new → Sound patch.old patch.new patch.entries → Valid patch.old s → update patch s ≡ Ok next → Valid patch.new next

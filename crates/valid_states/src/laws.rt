@@ -1,6 +1,6 @@
 //! What holds of every state of a run.
 
-ghost use Rattle.valid_states.specs.Laws.{StartIsValid, StepsStayValid, RunsStayValid, RunsStayValidUntilUpdate};
+ghost use Rattle.valid_states.specs.Laws.{StartIsValid, StepsStayValid, RunsStayValid, RunsStayValidUntilUpdate, UpdatesStayValid};
 
 /// A formed program starts in a valid state.
 pub fn first_state_is_valid()
@@ -17,4 +17,10 @@ pub fn steps_stay_valid()
 pub fn runs_stay_valid()
     ensures unarmed { RunsStayValid }
     ensures until_update { RunsStayValidUntilUpdate }
+{}
+
+/// An update by a sound patch leads from a valid state of the old program to a valid one of the
+/// new, where both programs are formed.
+pub fn updates_stay_valid()
+    ensures { UpdatesStayValid }
 {}

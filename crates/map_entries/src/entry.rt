@@ -1,0 +1,149 @@
+//! One entry of a mapping by numbers, or its least cause.
+
+ghost use Rattle.std.specs.Prelude.{◌≡◌};
+ghost use Rattle.c_tree.specs.Entries as spec;
+ghost use Rattle.map_entries.specs.Gives.{Gives};
+ghost use Rattle.map_entries.specs.Rest as rest;
+
+use crate::fill::{has_twice, lifted_fills};
+use crate::fits::{fields_read, filling, scalar_asked, slot_asked, testing};
+use crate::points::PointTable;
+use crate::refused::EntryRefused;
+use crate::site::{Site, callees_differ, kinds_differ};
+use c_tree::{Entry, EntryCause, Expr, Fill, LEntry, Name, Pt};
+use map_exprs::Reads;
+use patch_match::{Link, lifted_match};
+use std::alloc::Global;
+
+/// What fills a field of a new struct.
+fn lifted_field(
+    alloc: Global,
+    k: &Link<'_>,
+    owner: &Name,
+    name: &Name,
+    x: &Expr,
+) -> Result<LEntry, EntryRefused>
+    ensures { Gives result (spec.lifted_field k.now owner.now name.now x.now) }
+{
+    let s = k.new().number(1, owner).ok_or(EntryCause::UnknownStruct)?;
+    let i = k.new().field(s, name).ok_or(EntryCause::BadExpr)?;
+    let asked = slot_asked(k.new().fields(s), i);
+    let y = filling(alloc, k, fields_read(k, s), asked, x)?.ok_or(EntryCause::BadExpr)?;
+    Ok(LEntry::Field(s, i, y))
+}
+
+/// What fills a new global.
+fn lifted_init(alloc: Global, k: &Link<'_>, name: &Name, x: &Expr) -> Result<LEntry, EntryRefused>
+    ensures { Gives result (spec.lifted_init k.now name.now x.now) }
+{
+    let g = k.new().number(2, name).ok_or(EntryCause::UnknownGlobal)?;
+    let asked = scalar_asked(k.new().program().globals.as_slice(), g);
+    let y = filling(alloc, k, Reads::Nothing, asked, x)?.ok_or(EntryCause::BadExpr)?;
+    Ok(LEntry::Init(g, y))
+}
+
+/// A check by numbers.
+fn lifted_check(alloc: Global, k: &Link<'_>, x: &Expr) -> Result<LEntry, EntryRefused>
+    ensures { Gives result (spec.lifted_check k.now x.now) }
+{
+    let y = testing(alloc, k, x)?.ok_or(EntryCause::BadExpr)?;
+    Ok(LEntry::Check(y))
+}
+
+/// A point whose places are there and suit each other.
+fn filled_point(
+    alloc: Global,
+    k: &Link<'_>,
+    from: Site,
+    to: Site,
+    fills: &[Fill],
+) -> Result<LEntry, EntryRefused>
+    ensures { Gives result (rest.filled_point k.now from to fills.now) }
+{
+    let lifted = lifted_fills(alloc, k, from.function, to.function, fills)?;
+    let fills = lifted.ok_or(EntryCause::BadExpr)?;
+    if has_twice(alloc, fills.as_slice())? {
+        return Err(EntryRefused::Cause(EntryCause::Twice));
+    }
+    Ok(LEntry::Point(from.function, from.place, to.place, fills))
+}
+
+/// A point whose places are there.
+fn point_between(
+    alloc: Global,
+    k: &Link<'_>,
+    old: &PointTable<'_>,
+    new: &PointTable<'_>,
+    from: Site,
+    to: Site,
+    fills: &[Fill],
+) -> Result<LEntry, EntryRefused>
+    requires old { old.now ≡ k.now.old }
+    requires new { new.now ≡ k.now.new }
+    ensures { Gives result (rest.point_between k.now from to fills.now) }
+{
+    if kinds_differ(k, old, new, from, to) {
+        return Err(EntryRefused::Cause(EntryCause::KindDiffers));
+    }
+    if callees_differ(k, old, new, from, to) {
+        return Err(EntryRefused::Cause(EntryCause::CalleeDiffers));
+    }
+    filled_point(alloc, k, from, to, fills)
+}
+
+/// A place that is mapped, with what fills its slots.
+fn lifted_point(
+    alloc: Global,
+    k: &Link<'_>,
+    old: &PointTable<'_>,
+    new: &PointTable<'_>,
+    name: &Name,
+    from: Pt,
+    to: Pt,
+    fills: &[Fill],
+) -> Result<LEntry, EntryRefused>
+    requires old { old.now ≡ k.now.old }
+    requires new { new.now ≡ k.now.new }
+    ensures { Gives result (spec.lifted_point k.now name.now from to fills.now) }
+{
+    let f = k.old().number(0, name).ok_or(EntryCause::UnknownFunction)?;
+    let g = k.function(f).ok_or(EntryCause::UnknownFunction)?;
+    let n = old.place_of(f, from).ok_or(EntryCause::UnknownPoint)?;
+    let m = new.place_of(g, to).ok_or(EntryCause::UnknownPoint)?;
+    let from = Site {
+        function: f,
+        place: n,
+    };
+    let to = Site {
+        function: g,
+        place: m,
+    };
+    point_between(alloc, k, old, new, from, to, fills)
+}
+
+/// An entry of a mapping by numbers, or its least cause but that of an earlier entry. The link and
+/// the tables of points are of the same programs.
+pub fn lifted_entry(
+    alloc: Global,
+    k: &Link<'_>,
+    old: &PointTable<'_>,
+    new: &PointTable<'_>,
+    entry: &Entry,
+) -> Result<LEntry, EntryRefused>
+    requires old { old.now ≡ k.now.old }
+    requires new { new.now ≡ k.now.new }
+    ensures { Gives result (spec.lifted_entry k.now entry.now) }
+{
+    match entry {
+        Entry::Match(kind, a, b) => {
+            let lifted = lifted_match(k.old(), k.new(), *kind, a, b)?;
+            Ok(lifted)
+        }
+        Entry::Field(owner, name, x) => lifted_field(alloc, k, owner, name, x),
+        Entry::Init(name, x) => lifted_init(alloc, k, name, x),
+        Entry::Point(f, from, to, fills) => {
+            lifted_point(alloc, k, old, new, f, *from, *to, fills.as_slice())
+        }
+        Entry::Check(x) => lifted_check(alloc, k, x),
+    }
+}

@@ -1,0 +1,9 @@
+-- Each mapping that is read has its form.
+use Rattle.std.specs.Prelude.{ℕ, List}
+use Rattle.c_tree.specs.declared.mapping.Mapping.{Mapping}
+use Rattle.c_tree.specs.MapForm.{HasMapForm}
+use Rattle.c_grammar.specs.Mapping.{IsMappingOf}
+
+-- In the mapping that a text is, matches are of the four kinds, and no point is a plain place.
+abbrev pub EachMappingHasTheForm : Type 0
+EachMappingHasTheForm = (text : List ℕ) (mapping : Mapping) → IsMappingOf text mapping → HasMapForm mapping

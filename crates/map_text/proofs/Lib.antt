@@ -1,0 +1,3 @@
+pub mod PointLemmas
+pub mod TallyLemmas
+pub mod TextLemmas

@@ -1,0 +1,70 @@
+//! The two programs of a patch, as its text needs them.
+
+ghost use Rattle.std.specs.Prelude.{◌≡◌, IfOk};
+ghost use Rattle.c_places.specs.Limit.{KeepsLimit};
+ghost use Rattle.c_tree.specs.Link.{link_of};
+
+use crate::points::Points;
+use c_tree::{LEntry, Lifted};
+use patch_match::Link;
+use std::alloc::{AllocError, Global};
+use std::marker::Model;
+
+/// The link of two programs, and the points of both. Contracts see the link.
+#[derive(Drop)]
+pub struct Programs<'a> {
+    link: Link<'a>,
+    old: Points<'a>,
+    new: Points<'a>,
+}
+
+impl<'a> Model for Programs<'a> {
+    ghost use Rattle.std.specs.Prelude.{◌≡◌};
+    ghost use Rattle.std.specs.Coded.{codes};
+    ghost use Rattle.c_tree.specs.Link.{Link};
+    ghost use Rattle.c_tree.specs.contracts.lifted.Lifted as lifted;
+
+    ghost Value = { Link };
+
+    ghost coded = { Prim.hlevel (codes, lifted.the_row.coded) };
+
+    ghost view = { λ p. p.link };
+
+    ghost invariant = { λ p. (p.old ≡ p.link.old) × (p.new ≡ p.link.new) };
+}
+
+impl<'a> Programs<'a> {
+    pub fn of(
+        alloc: Global,
+        old: &'a Lifted,
+        new: &'a Lifted,
+        entries: &[LEntry],
+    ) -> Result<Programs<'a>, AllocError>
+        requires old_limit { KeepsLimit old.now }
+        requires new_limit { KeepsLimit new.now }
+        ensures { IfOk result (λ p. p ≡ link_of old.now new.now entries.now) }
+    {
+        let link = Link::by_numbers(alloc, old, new, entries)?;
+        let old = Points::of(alloc, old)?;
+        let new = Points::of(alloc, new)?;
+        Ok(Programs { link, old, new })
+    }
+
+    pub fn link(&self) -> &Link<'a>
+        ensures { result.now ≡ self.now }
+    {
+        &self.link
+    }
+
+    pub fn old(&self) -> &Points<'a>
+        ensures { result.now ≡ self.now.old }
+    {
+        &self.old
+    }
+
+    pub fn new(&self) -> &Points<'a>
+        ensures { result.now ≡ self.now.new }
+    {
+        &self.new
+    }
+}

@@ -1,0 +1,6 @@
+pub mod Languages
+pub mod Words
+pub mod Numbers
+pub mod Files
+pub mod Answers
+pub mod Taken

@@ -1,0 +1,7 @@
+pub mod AnyLemmas
+pub mod ClaimLemmas
+pub mod MatchLemmas
+pub mod NumberLemmas
+pub mod SidesLemmas
+pub mod OriginLemmas
+pub mod NumberedLemmas
