@@ -4,7 +4,8 @@
 //! that are ill typed, `lifting` what programs are lifted to and the limits, `running` programs and
 //! what they print, `memory` what they do with the heap and arrays, `input` what they read, `threads`
 //! what several threads come to under a schedule, `histories` the files of histories and schedules,
-//! `faults` what failing files and sinks make of a call, `usage` the words.
+//! `mappings` what comes of mappings, `patches` the command `patch` as a whole, `faults` what failing files
+//! and sinks make of a call, `usage` the words.
 #![tactic(auto)]
 
 #[cfg(test)]
@@ -18,7 +19,13 @@ mod input;
 #[cfg(test)]
 mod lifting;
 #[cfg(test)]
+mod mappings;
+#[cfg(test)]
 mod memory;
+#[cfg(test)]
+mod patch_files;
+#[cfg(test)]
+mod patches;
 #[cfg(test)]
 mod reading;
 #[cfg(test)]

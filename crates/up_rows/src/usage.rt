@@ -27,6 +27,11 @@ fn faulty_words_are_usage(rt: HostRuntime) -> Result<(), Fail> {
         "run a.c --seed 1 --schedule s",
         "run a.c --input",
         "check a.c --input f",
+        "patch a.c b.c m",
+        "patch a.c b.c -o p",
+        "patch a.c b.c m -o",
+        "patch a.c b.c m -o p -o q",
+        "patch a.c b.c m x -o p",
         "--version",
     ] {
         answers(&rt, rt.alloc(), &[], &plain(words), &usage)?;

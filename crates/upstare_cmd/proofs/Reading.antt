@@ -1,7 +1,7 @@
 -- How the files of a command are read one after another.
-use Rattle.std.proofs.Common.{◌≡◌, ℕ, suc, ◌+◌, ◌<◌, ◌≤◌, List, [], ◌∷◌, ◌++◌, length, get_or, take, drop, map, refl, sym, ap, subst, ◌∙◌, inl, inr, arith, add-one, drop-cons}
+use Rattle.std.proofs.Common.{◌≡◌, ℕ, suc, ◌+◌, ◌<◌, ◌≤◌, List, [], ◌∷◌, ◌++◌, length, get_or, take, drop, refl, sym, ap, subst, ◌∙◌, inl, inr, arith, add-one, drop-cons}
 use Rattle.std.proofs.lemmas.List.{take_all, take_more, take-append-drop, map-append}
-use Rattle.std.specs.Prelude.{◌⊎◌, Option, Some, None, min}
+use Rattle.std.specs.Prelude.{Option, Some, None}
 use Rattle.up_base.specs.Outside.{Contents, Shelf, Rose, Holds, HoldsMore, Lacks, IsMissing}
 use Rattle.upstare_cmd.specs.Answer.{Answer}
 use Rattle.upstare_cmd.specs.Command.{Wanted, IsLost, AreRead, Stops}

@@ -1,16 +1,10 @@
--- What holds of every accepted source.
+-- What holds of every run of an accepted source.
 use Rattle.std.specs.Prelude.{◌≡◌, ℕ, List, Some, None}
 use Rattle.c_tree.specs.declared.event.Event.{Event}
-use Rattle.c_tree.specs.declared.lifted.Lifted.{Lifted}
 use Rattle.c_tree.specs.declared.run.Settings.{Settings}
-use Rattle.c_tree.specs.Formed.{IsFormed}
 use Rattle.c_tree.specs.Run.{Core, run}
 use Rattle.c_tree.specs.Valid.{Valid}
-use Rattle.upstare_cmd.specs.Source.{IsAccepted}
-
--- The program of each accepted source is formed.
-abbrev pub AcceptedIsFormed : Type 0
-AcceptedIsFormed = (source : List ℕ) (p : Lifted) → IsAccepted source p → IsFormed p
+use Rattle.sources.specs.Source.{IsAccepted}
 
 -- Each state that a run of an accepted source comes to, where no update is armed, is valid.
 abbrev pub AcceptedRunsStayValid : Type 0

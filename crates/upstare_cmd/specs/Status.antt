@@ -9,6 +9,7 @@ abbrev pub code : Status → ℕ
 code s.Done = 0
 code s.Usage = 1
 code s.SourceRefused = 2
+code s.MapRefused = 3
 code s.ReadFault = 4
 code s.WriteFault = 5
 code s.Trapped = 6

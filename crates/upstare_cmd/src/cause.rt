@@ -1,12 +1,13 @@
-//! The words for which a source is refused.
+//! The words for which a source, a mapping or a patch is refused.
 
 ghost use Rattle.std.specs.Prelude.{◌≡◌, ◌++◌, OnOk};
 ghost use Rattle.upstare_cmd.specs.Line as spec;
 
-use c_tree::{CheckCause, LimitKind, ReadCause, SourceCause, Text};
+use c_tree::{CheckCause, EntryCause, LimitKind, ReadCause, SourceCause, Text};
 use std::alloc::AllocError;
 
-fn read_cause(line: &mut Text, cause: &ReadCause) -> Result<(), AllocError>
+/// Appends the words of a fault of a text to a line.
+pub fn read_cause(line: &mut Text, cause: &ReadCause) -> Result<(), AllocError>
     ensures { OnOk result (line.new ≡ line.old ++ spec.read_cause cause.now) }
 {
     match cause {
@@ -68,5 +69,22 @@ pub fn source_cause(line: &mut Text, cause: &SourceCause) -> Result<(), AllocErr
         SourceCause::Read(cause) => read_cause(line, cause),
         SourceCause::Check(cause) => check_cause(line, cause),
         SourceCause::Lift(kind) => line.append(limit(*kind)),
+    }
+}
+
+/// The words for which an entry of a mapping is unsound.
+pub fn entry_cause(cause: EntryCause) -> &'static str
+    ensures { result.now ≡ spec.entry_cause cause }
+{
+    match cause {
+        EntryCause::UnknownFunction => "unknown function",
+        EntryCause::UnknownPoint => "unknown point",
+        EntryCause::KindDiffers => "kind differs",
+        EntryCause::CalleeDiffers => "callee differs",
+        EntryCause::StartDiffers => "start differs",
+        EntryCause::UnknownStruct => "unknown struct",
+        EntryCause::UnknownGlobal => "unknown global",
+        EntryCause::BadExpr => "bad expression",
+        EntryCause::Twice => "twice",
     }
 }

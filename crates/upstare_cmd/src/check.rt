@@ -7,8 +7,9 @@ ghost use Rattle.upstare_cmd.specs.Views as view;
 use crate::answer::Answer;
 use crate::line;
 use crate::reply::prints;
-use crate::source::{accepted, turned_down};
+use crate::turned_down::turned_down;
 use c_tree::Lifted;
+use sources::accepted;
 use std::alloc::{AllocError, Global};
 
 /// How much an accepted program has of each kind.

@@ -3,8 +3,8 @@
 ghost use Rattle.std.specs.Prelude.{◌≡◌, IfOk, string_bytes};
 ghost use Rattle.upstare_cmd.specs.Line as spec;
 
-use crate::cause::source_cause;
-use c_tree::{End, SourceCause, Text, Trap};
+use crate::cause::{entry_cause, read_cause, source_cause};
+use c_tree::{End, EntryCause, ReadCause, SourceCause, Text, Trap};
 use std::alloc::{AllocError, Global};
 
 /// The line of want of memory, which is told without taking any.
@@ -50,6 +50,50 @@ pub fn refused(alloc: Global, name: &str, at: u32, why: &SourceCause) -> Result<
     source_cause(&mut line, why)?;
     line.append(b"\n")?;
     Ok(line)
+}
+
+/// Where a mapping is refused, `at` bytes from its start.
+fn map_place(alloc: Global, name: &str, at: u32) -> Result<String, AllocError>
+    ensures { IfOk result (λ line. string_bytes line ≡ spec.map_place name.now at) }
+{
+    format!(in alloc; "map {name} at {at}: ")
+}
+
+/// A mapping that is refused, `at` bytes from its start.
+pub fn map_refused(alloc: Global, name: &str, at: u32, why: &ReadCause) -> Result<Text, AllocError>
+    ensures { IfOk result (λ line. line ≡ spec.map_refused name.now at why.now) }
+{
+    let mut line = bytes_of(map_place(alloc, name, at)?);
+    read_cause(&mut line, why)?;
+    line.append(b"\n")?;
+    Ok(line)
+}
+
+/// A mapping whose entry of this number, from 1, is unsound.
+pub fn map_unsound(
+    alloc: Global,
+    name: &str,
+    entry: u32,
+    why: EntryCause,
+) -> Result<Text, AllocError>
+    ensures { IfOk result (λ line. line ≡ spec.map_unsound name.now entry why) }
+{
+    let why = entry_cause(why);
+    Ok(bytes_of(format!(in alloc; "map {name} entry {entry}: {why}\n")?))
+}
+
+/// A patch whose file would hold more than it may.
+pub fn patch_too_long(alloc: Global, name: &str) -> Result<Text, AllocError>
+    ensures { IfOk result (λ line. line ≡ spec.patch_too_long name.now) }
+{
+    Ok(bytes_of(format!(in alloc; "patch {name} at 4194304: too long\n")?))
+}
+
+/// How many bytes a patch has.
+pub fn written(alloc: Global, bytes: usize) -> Result<Text, AllocError>
+    ensures { IfOk result (λ line. line ≡ spec.written bytes) }
+{
+    Ok(bytes_of(format!(in alloc; "ok bytes {bytes}\n")?))
 }
 
 /// A file that holds more than it may.

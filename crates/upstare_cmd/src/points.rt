@@ -8,9 +8,10 @@ ghost use Rattle.upstare_cmd.specs.Views as view;
 
 use crate::answer::Answer;
 use crate::reply::prints;
-use crate::source::{accepted, turned_down};
+use crate::turned_down::turned_down;
 use c_places::{places, points_text};
 use c_tree::Lifted;
+use sources::accepted;
 use std::alloc::{AllocError, Global};
 
 /// The places of a program that mappings can name.

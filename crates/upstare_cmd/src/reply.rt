@@ -7,7 +7,7 @@ ghost use Rattle.upstare_cmd.specs.Views as view;
 use crate::answer::{Answer, Piece};
 use crate::line;
 use crate::status::Status;
-use c_tree::{Row, SourceCause, Text};
+use c_tree::{EntryCause, ReadCause, Row, SourceCause, Text};
 use std::alloc::{AllocError, Global};
 
 /// A line alone.
@@ -65,6 +65,64 @@ pub fn refused(alloc: Global, name: &str, at: u32, why: &SourceCause) -> Result<
         line::refused(alloc, name, at, why)?,
         Status::SourceRefused,
     ))
+}
+
+/// A mapping is refused, `at` bytes from its start.
+pub fn map_refused(
+    alloc: Global,
+    name: &str,
+    at: u32,
+    why: &ReadCause,
+) -> Result<Answer, AllocError>
+    ensures { IfOk result (λ a. view.answer a ≡ spec.map_refused name.now at why.now) }
+{
+    Ok(says(
+        alloc,
+        line::map_refused(alloc, name, at, why)?,
+        Status::MapRefused,
+    ))
+}
+
+/// A mapping has an unsound entry of this number, from 1.
+pub fn map_unsound(
+    alloc: Global,
+    name: &str,
+    entry: u32,
+    why: EntryCause,
+) -> Result<Answer, AllocError>
+    ensures { IfOk result (λ a. view.answer a ≡ spec.map_unsound name.now entry why) }
+{
+    Ok(says(
+        alloc,
+        line::map_unsound(alloc, name, entry, why)?,
+        Status::MapRefused,
+    ))
+}
+
+/// A patch would have more bytes than its file may.
+pub fn patch_too_long(alloc: Global, name: &str) -> Result<Answer, AllocError>
+    ensures { IfOk result (λ a. view.answer a ≡ spec.patch_too_long name.now) }
+{
+    Ok(says(
+        alloc,
+        line::patch_too_long(alloc, name)?,
+        Status::MapRefused,
+    ))
+}
+
+/// A patch for its file, and then how many bytes it has for the output.
+pub fn patch_written(alloc: Global, name: &str, patch: Text) -> Result<Answer, AllocError>
+    ensures { IfOk result (λ a. view.answer a ≡ spec.patch_written name.now patch) }
+{
+    let line = line::written(alloc, patch.as_bytes().len())?;
+    let mut pieces = Vec::new(alloc);
+    pieces.push(Piece::File(String::from_str(alloc, name)?, patch))?;
+    pieces.push(Piece::Out(line))?;
+    Ok(Answer {
+        pieces: Row::from_vec(pieces),
+        line: Text::from_vec(Vec::new(alloc)),
+        status: Status::Done,
+    })
 }
 
 /// A file holds more than it may.

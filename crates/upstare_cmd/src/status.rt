@@ -14,6 +14,8 @@ pub enum Status {
     Usage,
     /// A source is refused.
     SourceRefused,
+    /// A mapping or a patch is refused.
+    MapRefused,
     /// A file could not be read.
     ReadFault,
     /// The output, the line or a file could not be written.
@@ -41,6 +43,7 @@ impl Status {
             Status::Done => 0,
             Status::Usage => 1,
             Status::SourceRefused => 2,
+            Status::MapRefused => 3,
             Status::ReadFault => 4,
             Status::WriteFault => 5,
             Status::Trapped => 6,

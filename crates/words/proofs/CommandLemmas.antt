@@ -5,8 +5,8 @@ use Rattle.std.specs.Option.{option_map_or}
 use Rattle.std.specs.Str.{bytes_eq}
 use Rattle.std.proofs.lemmas.Slice.Eq.{bytes_eq-Decides}
 use Rattle.clap.specs.Words.{IsUnsignedIn, Row, Text, first_of}
-use Rattle.words.specs.Command.{Usage, RunWords, command_of, command_on, file_in, number_in, run_of, run_on, run_words}
-use Rattle.words.specs.Options.{default_steps, found, max_seed, max_steps, run_app}
+use Rattle.words.specs.Command.{Usage, Patch, PatchWords, RunWords, command_of, command_on, file_in, name_in, number_in, patch_of, patch_words, run_of, run_on, run_words}
+use Rattle.words.specs.Options.{default_steps, found, max_seed, max_steps, patch_app, run_app}
 
 -- a run of the parts that were found is what the words of a run ask for
 pub run_given : (words : List Text) (rows : List Row) (run : RunWords) → Some rows ≡ found run_app words
@@ -16,6 +16,14 @@ pub run_given : (words : List Text) (rows : List Row) (run : RunWords) → Some 
 run_given words rows run is file input seed schedule steps history =
     let same : run ≡ run_words rows = λ i. record { file = file i; input = input i; seed = seed i; schedule = schedule i; steps = steps i; history = history i } in
     ap run_on same ∙ ap (λ o. option_map_or (λ rows. run_on (run_words rows)) o Usage) is
+
+-- a patch of the parts that were found is what the words of a patch ask for
+pub patch_given : (words : List Text) (rows : List Row) (patch : PatchWords) → Some rows ≡ found patch_app words
+    → patch.old ≡ name_in (codes "old") rows → patch.new ≡ name_in (codes "new") rows → patch.map ≡ name_in (codes "map") rows
+    → patch.output ≡ name_in (codes "output") rows → Patch patch ≡ patch_of words
+patch_given words rows patch is old new mapping output =
+    let same : patch ≡ patch_words rows = λ i. record { old = old i; new = new i; map = mapping i; output = output i } in
+    ap Patch same ∙ ap (λ o. option_map_or (λ rows. Patch (patch_words rows)) o Usage) is
 
 -- a number of steps is a number
 pub steps_are_read : (o : Option Text) → IfSome o (IsUnsignedIn 1 max_steps) → IfSome o (IsUnsignedIn 0 max_seed)
@@ -31,9 +39,9 @@ differs a b other = go (bytes_eq a b) refl
 
 -- words that begin with no command's name are a usage fault
 pub no_command : {X : Type 0} (text : X → Text) (words : List X) (first : X) (name : Text) → Some first ≡ slice_get words 0 → name ≡ text first
-    → (name ≡ codes "check" → ⊥) → (name ≡ codes "points" → ⊥) → (name ≡ codes "run" → ⊥) → Usage ≡ command_of (map text words)
-no_command text [] first name e is check points run = cc
-no_command text (x ∷ xs) first name e is check points run =
+    → (name ≡ codes "check" → ⊥) → (name ≡ codes "points" → ⊥) → (name ≡ codes "run" → ⊥) → (name ≡ codes "patch" → ⊥) → Usage ≡ command_of (map text words)
+no_command text [] first name e is check points run patch = cc
+no_command text (x ∷ xs) first name e is check points run patch =
     let same : name ≡ text x = is ∙ ap (λ o. text (unwrap_or o first)) e in
-    let here : Usage ≡ command_on name (map text (x ∷ xs)) = rw (differs name (codes "check") check, differs name (codes "points") points, differs name (codes "run") run) refl in
+    let here : Usage ≡ command_on name (map text (x ∷ xs)) = rw (differs name (codes "check") check, differs name (codes "points") points, differs name (codes "run") run, differs name (codes "patch") patch) refl in
     here ∙ ap (λ (n : Text). command_on n (map text (x ∷ xs))) same

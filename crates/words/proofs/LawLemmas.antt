@@ -10,9 +10,9 @@ use Rattle.clap.specs.Walk.{Rule, action_of, nothing_held, walk}
 use Rattle.clap.specs.declared.builder.action.ArgAction.TheVariants.{Set}
 use Rattle.clap.specs.declared.builder.value_parser.ValueParser.TheVariants as parser
 use Rattle.clap.proofs.ValueTestLemmas.{accepts-Accepts}
-use Rattle.words.specs.Command.{Command, Usage, Check, Points, Run, RunWords, command_of, check_of, points_of, run_of, run_on, run_words, number_of}
+use Rattle.words.specs.Command.{Command, Usage, Check, Points, Run, Patch, RunWords, command_of, check_of, patch_of, patch_words, points_of, run_of, run_on, run_words, number_of}
 use Rattle.words.specs.Laws.{IsFair, IsFairCommand}
-use Rattle.words.specs.Options.{default_steps, found, max_seed, max_steps, run_app}
+use Rattle.words.specs.Options.{default_steps, found, max_seed, max_steps, patch_app, run_app}
 use Rattle.words.specs.Options as options
 use Rattle.words.proofs.NumbersPass as pass
 
@@ -109,6 +109,10 @@ of_run words run e = go (found run_app words) (seed_lies words) (steps_lie words
     go (Some rows) seed_range steps_range e = on_rows rows run (seed_range rows refl) (steps_range rows refl) e
     go None seed_range steps_range e = no_run Usage run refl e
 
+of_patch : {X : Type 0} (o : Option (List Row)) (run : RunWords) → option_map_or (λ rows. Patch (patch_words rows)) o Usage ≡ Run run → X
+of_patch None run e = no_run Usage run refl e
+of_patch (Some rows) run e = no_run (Patch (patch_words rows)) run refl e
+
 of_file : {X : Type 0} (c : Text → Command) (read : List Row → Text) (o : Option (List Row)) (run : RunWords) → ((t : Text) → is_run (c t) ≡ false)
     → option_map_or (λ rows. c (read rows)) o Usage ≡ Run run → X
 of_file c read None run other e = no_run Usage run refl e
@@ -116,16 +120,18 @@ of_file c read (Some rows) run other e = no_run (c (read rows)) run (other (read
 
 pub run_is_fair : (words : List (List ℕ)) (run : RunWords) → command_of words ≡ Run run → IsFair run
 run_is_fair [] run e = no_run Usage run refl e
-run_is_fair (name ∷ rest) run e = go (bytes_eq name (codes "check")) (bytes_eq name (codes "points")) (bytes_eq name (codes "run")) e
+run_is_fair (name ∷ rest) run e = go (bytes_eq name (codes "check")) (bytes_eq name (codes "points")) (bytes_eq name (codes "run")) (bytes_eq name (codes "patch")) e
   where
     words : List Text
     words = name ∷ rest
 
-    go : (a b c : Bool) → (if a then check_of words else (if b then points_of words else (if c then run_of words else Usage))) ≡ Run run → IsFair run
-    go true b c e = of_file Check _ _ run (λ t. refl) e
-    go false true c e = of_file Points _ _ run (λ t. refl) e
-    go false false true e = of_run words run e
-    go false false false e = no_run Usage run refl e
+    go : (a b c d : Bool)
+        → (if a then check_of words else (if b then points_of words else (if c then run_of words else (if d then patch_of words else Usage)))) ≡ Run run → IsFair run
+    go true b c d e = of_file Check _ _ run (λ t. refl) e
+    go false true c d e = of_file Points _ _ run (λ t. refl) e
+    go false false true d e = of_run words run e
+    go false false false true e = of_patch _ run e
+    go false false false false e = no_run Usage run refl e
 
 -- and so is what the words of a run ask for
 pub run_of_is_fair : (words : List Text) (c : Command) → c ≡ run_of words → IsFairCommand c
@@ -133,3 +139,4 @@ run_of_is_fair words Usage e = tt
 run_of_is_fair words (Check name) e = tt
 run_of_is_fair words (Points name) e = tt
 run_of_is_fair words (Run run) e = of_run words run (sym e)
+run_of_is_fair words (Patch patch) e = tt

@@ -21,16 +21,30 @@ pub record RunWords : Type 0 where
   -- the name of the file that the history goes to
   pub history : Option Text
 
--- What the words ask for. Each command but `Usage` has the name of its file.
+-- The files of a patch that is made.
+pub record PatchWords : Type 0 where
+  -- the names of the files with the old program, the new program and the mapping
+  pub old : Text
+  pub new : Text
+  pub map : Text
+  -- the name of the file that the patch goes to
+  pub output : Text
+
+-- What the words ask for. Each command but `Usage` has the names of its files.
 pub data Command : Type 0 where
   Usage : Command
   Check : Text → Command
   Points : Text → Command
   Run : RunWords → Command
+  Patch : PatchWords → Command
+
+-- the name of a file that has to be named
+abbrev pub name_in : Text → List Row → Text
+name_in name rows = unwrap_or (first_of name rows) []
 
 -- the name of the file that is read
 abbrev pub file_in : List Row → Text
-file_in rows = unwrap_or (first_of (codes "file") rows) []
+file_in rows = name_in (codes "file") rows
 
 -- the number that a text says
 abbrev pub number_of : Text → ℕ
@@ -68,11 +82,24 @@ abbrev pub run_of : List Text → Command
 run_of words =
     option_map_or (λ rows. run_on (run_words rows)) (options.found options.run_app words) Usage
 
+abbrev pub patch_words : List Row → PatchWords
+patch_words rows = record {
+  old = name_in (codes "old") rows;
+  new = name_in (codes "new") rows;
+  map = name_in (codes "map") rows;
+  output = name_in (codes "output") rows;
+}
+
+abbrev pub patch_of : List Text → Command
+patch_of words =
+    option_map_or (λ rows. Patch (patch_words rows)) (options.found options.patch_app words) Usage
+
 abbrev pub command_on : Text → List Text → Command
 command_on name words =
     if bytes_eq name (codes "check") then check_of words
     else (if bytes_eq name (codes "points") then points_of words
-    else (if bytes_eq name (codes "run") then run_of words else Usage))
+    else (if bytes_eq name (codes "run") then run_of words
+    else (if bytes_eq name (codes "patch") then patch_of words else Usage)))
 
 -- the command that the words are; the first of them is its name
 abbrev pub command_of : List Text → Command

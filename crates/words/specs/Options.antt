@@ -4,9 +4,13 @@ use Rattle.clap.specs.Words.{App, Row, Rule, Text, new_app, new_rule, with_rule,
 use Rattle.clap.specs.Simple.{on_top}
 use Rattle.clap.specs.declared.builder.value_parser.ValueParser.TheVariants as parser
 
--- the file that a command reads, which has to be named
+-- a file that has to be named
+abbrev pub named_file : Text → Rule
+named_file name = record (new_rule name) { required = true }
+
+-- the file that a command reads
 abbrev pub file : Rule
-file = record (new_rule (codes "file")) { required = true }
+file = named_file (codes "file")
 
 -- an option with a text, `--NAME TEXT`
 abbrev pub text_option : Text → Rule
@@ -63,6 +67,22 @@ abbrev pub run_app : App
 run_app =
     with_rule (with_rule (with_rule (with_rule (with_rule
     (file_app (codes "run")) input) seed) schedule) steps) history
+
+abbrev pub old : Rule
+old = named_file (codes "old")
+
+abbrev pub new : Rule
+new = named_file (codes "new")
+
+abbrev pub mapping : Rule
+mapping = named_file (codes "map")
+
+-- the file that a patch goes to, `-o OUT`
+abbrev pub output : Rule
+output = record (new_rule (codes "output")) { short = Some 111; required = true }
+
+abbrev pub patch_app : App
+patch_app = with_rule (with_rule (with_rule (with_rule (bare (codes "patch")) old) new) mapping) output
 
 -- what was found for each argument, where the command takes the words
 abbrev pub found : App → List Text → Option (List Row)

@@ -3,8 +3,9 @@ use Rattle.std.specs.Prelude.{ℕ, List, Option, option_map}
 use Rattle.std.specs.Borrow.{Bor}
 use Rattle.words.specs.Command as c
 use Rattle.words.specs.declared.command.Command.{Command}
-use Rattle.words.specs.declared.command.Command.TheVariants.{Usage, Check, Points, Run}
+use Rattle.words.specs.declared.command.Command.TheVariants.{Usage, Check, Points, Run, Patch}
 use Rattle.words.specs.declared.command.RunWords.{RunWords}
+use Rattle.words.specs.declared.command.PatchWords.{PatchWords}
 
 abbrev pub text : Option (Bor (List ℕ)) → Option (List ℕ)
 text = option_map (λ s. s.now)
@@ -19,8 +20,12 @@ run r = record {
   history = text r.history;
 }
 
+abbrev pub patch : PatchWords → c.PatchWords
+patch p = record { old = p.old.now; new = p.new.now; map = p.map.now; output = p.output.now }
+
 abbrev pub command : Command → c.Command
 command Usage = c.Usage
 command (Check name) = c.Check name.now
 command (Points name) = c.Points name.now
 command (Run r) = c.Run (run r)
+command (Patch p) = c.Patch (patch p)

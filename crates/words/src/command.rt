@@ -5,8 +5,8 @@ ghost use Rattle.words.specs.Command as spec;
 ghost use Rattle.words.specs.Laws as laws;
 ghost use Rattle.words.specs.Views as view;
 
-use crate::matches::{file_in, found_in, number_in, text_in};
-use crate::options::{check_command, points_command, run_command};
+use crate::matches::{file_in, found_in, name_in, number_in, text_in};
+use crate::options::{check_command, patch_command, points_command, run_command};
 use std::alloc::{AllocError, Global};
 
 /// The most steps of a run that was given no number of them.
@@ -29,7 +29,20 @@ pub struct RunWords<'a> {
     pub history: Option<&'a str>,
 }
 
-/// What the words ask for. Each command but `Usage` has the name of its file.
+/// The files of a patch that is made.
+#[derive(Clone, Copy, Debug, PartialEq, Eq)]
+pub struct PatchWords<'a> {
+    /// The name of the file with the old program.
+    pub old: &'a str,
+    /// The name of the file with the new program.
+    pub new: &'a str,
+    /// The name of the file with the mapping.
+    pub map: &'a str,
+    /// The name of the file that the patch goes to.
+    pub output: &'a str,
+}
+
+/// What the words ask for. Each command but `Usage` has the names of its files.
 #[derive(Clone, Copy, Debug, PartialEq, Eq)]
 pub enum Command<'a> {
     /// The words are no command.
@@ -40,6 +53,8 @@ pub enum Command<'a> {
     Points(&'a str),
     /// A run of the program.
     Run(RunWords<'a>),
+    /// A patch from one program to another.
+    Patch(PatchWords<'a>),
 }
 
 fn check_in<'a>(alloc: Global, words: &'a [String]) -> Result<Command<'a>, AllocError>
@@ -91,6 +106,21 @@ fn run_in<'a>(alloc: Global, words: &'a [String]) -> Result<Command<'a>, AllocEr
     }))
 }
 
+fn patch_in<'a>(alloc: Global, words: &'a [String]) -> Result<Command<'a>, AllocError>
+    ensures { IfOk result (λ c.
+        view.command c ≡ spec.patch_of (map string_bytes words.entry.now)) }
+{
+    let Some(matches) = found_in(patch_command(alloc)?, words)? else {
+        return Ok(Command::Usage);
+    };
+    Ok(Command::Patch(PatchWords {
+        old: name_in(&matches, "old"),
+        new: name_in(&matches, "new"),
+        map: name_in(&matches, "map"),
+        output: name_in(&matches, "output"),
+    }))
+}
+
 /// The command that the words are, of which the first is its name. An `Err` is want of memory.
 pub fn command_of<'a>(alloc: Global, words: &'a [String]) -> Result<Command<'a>, AllocError>
     ensures command { IfOk result (λ c.
@@ -104,6 +134,7 @@ pub fn command_of<'a>(alloc: Global, words: &'a [String]) -> Result<Command<'a>,
         "check" => check_in(alloc, words),
         "points" => points_in(alloc, words),
         "run" => run_in(alloc, words),
+        "patch" => patch_in(alloc, words),
         _ => Ok(Command::Usage),
     }
 }

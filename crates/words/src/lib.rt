@@ -15,4 +15,4 @@ mod options;
 #[cfg(test)]
 mod tests;
 
-pub use command::{Command, RunWords, command_of};
+pub use command::{Command, PatchWords, RunWords, command_of};

@@ -36,6 +36,13 @@ pub(crate) fn text_in<'a>(matches: &ArgMatches<'a>, name: &str) -> Option<&'a st
     matches.get_str(name)
 }
 
+/// The name of a file that has to be named.
+pub(crate) fn name_in<'a>(matches: &ArgMatches<'a>, name: &str) -> &'a str
+    ensures { result.now ≡ spec.name_in name.now (rows_of (found_of matches.now)) }
+{
+    text_in(matches, name).unwrap_or("")
+}
+
 /// The name of the file that is read.
 pub(crate) fn file_in<'a>(matches: &ArgMatches<'a>) -> &'a str
     ensures { result.now ≡ spec.file_in (rows_of (found_of matches.now)) }

@@ -58,15 +58,49 @@ fn history<'a>(alloc: Global) -> Arg<'a>
     Arg::new(alloc, "history").long("history")
 }
 
-/// A command that takes a file alone, and has no words for help and for the version.
-fn file_command<'a>(alloc: Global, name: &'a str) -> Result<Command<'a>, AllocError>
-    ensures { IfOk result (λ c. app_of c ≡ spec.file_app name.entry.now) }
+/// The name of the file with the old program.
+fn old<'a>(alloc: Global) -> Arg<'a>
+    ensures { (rule_of result ≡ spec.old) × (result.global ≡ false) }
+{
+    Arg::new(alloc, "old").required(true)
+}
+
+/// The name of the file with the new program.
+fn new<'a>(alloc: Global) -> Arg<'a>
+    ensures { (rule_of result ≡ spec.new) × (result.global ≡ false) }
+{
+    Arg::new(alloc, "new").required(true)
+}
+
+/// The name of the file with the mapping.
+fn mapping<'a>(alloc: Global) -> Arg<'a>
+    ensures { (rule_of result ≡ spec.mapping) × (result.global ≡ false) }
+{
+    Arg::new(alloc, "map").required(true)
+}
+
+/// The name of the file that the patch goes to.
+fn output<'a>(alloc: Global) -> Arg<'a>
+    ensures { (rule_of result ≡ spec.output) × (result.global ≡ false) }
+{
+    Arg::new(alloc, "output").short('o').required(true)
+}
+
+/// A command with no words of its own for help and for the version.
+fn bare<'a>(alloc: Global, name: &'a str) -> Command<'a>
+    ensures { app_of result ≡ spec.bare name.entry.now }
 {
     Command::new(alloc, name)
         .disable_help_flag(true)
         .disable_version_flag(true)
         .disable_help_subcommand(true)
-        .arg(file(alloc))
+}
+
+/// A command that takes a file alone.
+fn file_command<'a>(alloc: Global, name: &'a str) -> Result<Command<'a>, AllocError>
+    ensures { IfOk result (λ c. app_of c ≡ spec.file_app name.entry.now) }
+{
+    bare(alloc, name).arg(file(alloc))
 }
 
 /// `check FILE`
@@ -93,4 +127,15 @@ pub(crate) fn run_command<'a>(alloc: Global) -> Result<Command<'a>, AllocError>
         .arg(schedule(alloc))?
         .arg(steps(alloc))?
         .arg(history(alloc))
+}
+
+/// `patch OLD NEW MAP -o OUT`
+pub(crate) fn patch_command<'a>(alloc: Global) -> Result<Command<'a>, AllocError>
+    ensures { IfOk result (λ c. app_of c ≡ spec.patch_app) }
+{
+    bare(alloc, "patch")
+        .arg(old(alloc))?
+        .arg(new(alloc))?
+        .arg(mapping(alloc))?
+        .arg(output(alloc))
 }

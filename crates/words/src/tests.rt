@@ -1,6 +1,6 @@
 //! What words ask for, as one table.
 
-use crate::{Command, RunWords, command_of};
+use crate::{Command, PatchWords, RunWords, command_of};
 use std::alloc::{AllocError, Global};
 
 fn run(file: &str) -> RunWords<'_> {
@@ -11,6 +11,15 @@ fn run(file: &str) -> RunWords<'_> {
         schedule: None,
         steps: 1_000_000,
         history: None,
+    }
+}
+
+fn patch<'a>(old: &'a str, new: &'a str, map: &'a str, output: &'a str) -> PatchWords<'a> {
+    PatchWords {
+        old,
+        new,
+        map,
+        output,
     }
 }
 
@@ -92,6 +101,21 @@ fn the_words_are_the_command(rt: HostRuntime) {
         ("run a.c --input", Command::Usage),
         ("run a.c --input i --input i", Command::Usage),
         ("check a.c --input i", Command::Usage),
+        (
+            "patch a b m -o p",
+            Command::Patch(patch("a", "b", "m", "p")),
+        ),
+        (
+            "patch -o p a b m",
+            Command::Patch(patch("a", "b", "m", "p")),
+        ),
+        ("patch a -op b m", Command::Patch(patch("a", "b", "m", "p"))),
+        ("patch a b m", Command::Usage),
+        ("patch a b -o p", Command::Usage),
+        ("patch a b m x -o p", Command::Usage),
+        ("patch a b m -o", Command::Usage),
+        ("patch a b m -o p -o q", Command::Usage),
+        ("patch a b m --output p", Command::Usage),
     ] {
         let words = words_of(rt.alloc(), line).expect(&rt, "words");
         let got = command_of(rt.alloc(), words.as_slice()).expect(&rt, "memory");

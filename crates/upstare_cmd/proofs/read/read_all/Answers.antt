@@ -1,4 +1,4 @@
-use Rattle.std.proofs.Common.{◌≡◌, [], length, refl, ap, arith}
+use Rattle.std.proofs.Common.{◌≡◌, length, refl, ap, arith}
 use Rattle.upstare_cmd.proofs.Reading.{more_read, stops_here, all_read}
 use Rattle.upstare_cmd.proofs.read.read_all.Goals as goal
 

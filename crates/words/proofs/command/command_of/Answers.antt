@@ -10,4 +10,4 @@ returns-in-run-clause-fair c = IfOk-weaker c.run_in.result _ _ (λ run is. run_o
 
 pub returns-in_default-as_str-clause-command : goal.returns-in_default-as_str-clause-command
 returns-in_default-as_str-clause-command c = no_command string_bytes c.args.words.now c.in-Some.name.now c.as_str.result.now c.in-Some.ensures.value c.as_str.ensures.value
-    c.in_default-as_str.not-check c.in_default-as_str.not-points c.in_default-as_str.not-run
+    c.in_default-as_str.not-check c.in_default-as_str.not-points c.in_default-as_str.not-run c.in_default-as_str.not-patch

@@ -1,0 +1,34 @@
+-- Which patches have a file, and the bytes of the file.
+use Rattle.std.specs.Prelude.{◌≡◌, ◌≤◌, ℕ, List, length, map, Ok}
+use Rattle.c_grammar.specs.Mapping.{IsMappingOf}
+use Rattle.c_tree.specs.declared.mapping.Mapping.{Mapping}
+use Rattle.c_tree.specs.declared.mapping.Patch.{Patch}
+use Rattle.c_tree.specs.Canonical.{canonical_entries, canonical_text}
+use Rattle.patch_frame.specs.Framing.{framed}
+use Rattle.sources.specs.Source.{IsAccepted}
+
+-- the most bytes of a patch's file
+abbrev pub max_file : ℕ
+max_file = 4194304
+
+-- the text of a patch's entries
+abbrev pub map_of : Patch → List ℕ
+map_of p = canonical_text p.old p.new p.entries
+
+-- the bytes of a patch's file: its two sources, and the text of its entries
+abbrev pub file_of : Patch → List ℕ
+file_of p = framed p.old_text p.new_text (map_of p)
+
+-- A patch is whole: its programs are those of its sources, the text of its entries is a mapping, whose canonical entries they
+-- are, and its file has at most so many bytes.
+pub record IsWhole (p : Patch) : Type 0 where
+  pub old : IsAccepted p.old_text p.old
+  pub new : IsAccepted p.new_text p.new
+  pub mapping : Mapping
+  pub read : IsMappingOf (map_of p) mapping
+  pub entries : canonical_entries p.old p.new (map (λ x. x.it) mapping.entries) ≡ Ok p.entries
+  pub small : length (file_of p) ≤ max_file
+
+-- The bytes are the file of a whole patch.
+abbrev pub IsFileOf : List ℕ → Patch → Type 0
+IsFileOf bytes p = IsWhole p × (bytes ≡ file_of p)

@@ -1,0 +1,5 @@
+pub mod SortLemmas
+pub mod KeyLemmas
+pub mod SubjectLemmas
+mod EntriesLemmas
+mod MakerLemmas
