@@ -37,6 +37,7 @@ class Grammar:
                 current.append(line)
         self.classes = " ".join(sections["classes"]).split()
         self.words = [tuple(line.split()) for line in sections["words"]]
+        self.map_words = [tuple(line.split()) for line in sections["map words"]]
         self.left_out = " ".join(sections["left out"]).split()
         self.signs = [tuple(line.split()) for line in sections["signs"]]
         self.sorts = " ".join(sections["sorts"]).split()
@@ -45,8 +46,9 @@ class Grammar:
             finds, leaves = line.split("->")
             name, *finds = finds.split()
             self.actions[name] = (finds, leaves.split())
-        self.kinds = self.classes + [kind for kind, _ in self.words + self.signs]
-        self.spelled = {spelling: kind for kind, spelling in self.words + self.signs}
+        spellings = self.words + self.signs + self.map_words
+        self.kinds = self.classes + [kind for kind, _ in spellings]
+        self.spelled = {spelling: kind for kind, spelling in spellings}
         self.spelled.update({kind.upper(): kind for kind in self.classes})
         self.kept = dict(line.split() for line in sections["kept"])
         self.rules = self.read_rules(sections["rules"] + level_rules(sections["levels"]))
@@ -335,8 +337,9 @@ pub enum Action {{
 def write_words(g):
     pairs = [(spelling, kind) for kind, spelling in g.words] + [(word, "LeftOut") for word in g.left_out]
     entries = "".join(f'        (b"{spelling}", Kind::{kind}),\n' for spelling, kind in pairs)
+    mapped = "".join(f'        (b"{spelling}", Kind::{kind}),\n' for kind, spelling in g.map_words)
     signs = "".join(f"        Kind::{kind}, // {spelling}\n" for kind, spelling in g.signs)
-    write(GRAMMAR / "src/words.rt", f"""//! The words that are no names, and the signs. {HEAD}
+    write(GRAMMAR / "src/words.rt", f"""//! The words with a meaning, and the signs. {HEAD}
 
 ghost use Rattle.std.specs.Prelude.{{◌≡◌, map}};
 ghost use Rattle.c_grammar.specs.Words as spec;
@@ -353,6 +356,16 @@ pub fn words() -> &'static [(&'static [u8], Kind)]
 {entries}    ]
 }}
 
+/// The names that have a meaning in mappings, with their kinds.
+#[rattlefmt::skip]
+#[tactic(auto, unfolding(crate::specs::Words::map_words))]
+pub fn map_words() -> &'static [(&'static [u8], Kind)]
+    ensures {{ map (λ w. record {{ text = w.0.now; kind = w.1 }}) result.now ≡ spec.map_words }}
+{{
+    &[
+{mapped}    ]
+}}
+
 /// The kinds of the signs, in the order of their numbers.
 #[rattlefmt::skip]
 #[tactic(auto, unfolding(crate::specs::Words::signs))]
@@ -365,8 +378,10 @@ pub fn signs() -> &'static [Kind]
 """)
     lines = [f'record {{ text = codes "{spelling}"; kind = kind.{kind} }}' for spelling, kind in pairs]
     entries = "\n".join("    " + line + " ∷" for line in lines)
+    lines = [f'record {{ text = codes "{spelling}"; kind = kind.{kind} }}' for kind, spelling in g.map_words]
+    mapped = "\n".join("    " + line + " ∷" for line in lines)
     signs = wrapped("signs = ", [f"kind.{kind}" for kind, _ in g.signs])
-    write(GRAMMAR / "specs/Words.antt", f"""-- The words that are no names, and the signs. {HEAD}
+    write(GRAMMAR / "specs/Words.antt", f"""-- The words with a meaning, and the signs. {HEAD}
 use Rattle.std.specs.Prelude.{{ℕ, List, [], ◌∷◌, codes}}
 use {DECLARED}.kind.Kind.{{Kind}}
 use {DECLARED}.kind.Kind.TheVariants as kind
@@ -379,6 +394,12 @@ pub record Entry : Type 0 where
 unfoldable pub words : List Entry
 words =
 {entries}
+    []
+
+-- the names that have a meaning in mappings
+unfoldable pub map_words : List Entry
+map_words =
+{mapped}
     []
 
 -- the signs, in the order of their numbers
@@ -404,7 +425,7 @@ use Rattle.std.specs.Prelude.{{List, [], ◌∷◌}}
 
 abbrev pub alternatives : Rule → List (List Symbol)
 {body}
--- What a whole text is: a file, or an expression of a mapping.
+-- What a whole text is: a source, an expression of a mapping, or a mapping.
 {starts}
 """)
 
