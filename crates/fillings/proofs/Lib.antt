@@ -1,0 +1,4 @@
+pub mod After
+pub mod EntryLemmas
+pub mod SubjectLemmas
+pub mod CarryLemmas

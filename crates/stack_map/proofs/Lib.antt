@@ -1,0 +1,4 @@
+pub mod KeptLemmas
+pub mod LinkLemmas
+pub mod FrameLemmas
+pub mod FillingsFrom

@@ -1,0 +1,55 @@
+//! What became of the last frame.
+
+ghost use Rattle.std.specs.Prelude.{◌≡◌, IfOk, OnOk};
+ghost use Rattle.stack_map.specs.Moved.{Tells};
+
+use crate::frame_map::FrameMap;
+use crate::parts::{Part, part_at};
+use std::alloc::{AllocError, Global};
+
+/// The part that frames at one place of an old function become, kept for the next frame: stacks
+/// often hold many frames at one place.
+#[derive(Drop)]
+pub struct Known {
+    pub function: u32,
+    pub place: u32,
+    pub part: Option<Part>,
+}
+
+impl Known {
+    pub fn at(
+        alloc: Global,
+        m: &FrameMap<'_, '_>,
+        function: u32,
+        place: u32,
+    ) -> Result<Known, AllocError>
+        ensures at { IfOk result (λ known. (known.function ≡ function) × (known.place ≡ place)) }
+        ensures tells { IfOk result (λ known. Tells m.now.link.now m.now.entries.now known) }
+    {
+        let part = part_at(alloc, m, function, place)?;
+        Ok(Known {
+            function,
+            place,
+            part,
+        })
+    }
+
+    /// Goes on to a place, which is often the same.
+    pub fn turn(
+        &mut self,
+        alloc: Global,
+        m: &FrameMap<'_, '_>,
+        function: u32,
+        place: u32,
+    ) -> Result<(), AllocError>
+        requires { Tells m.now.link.now m.now.entries.now self.old }
+        ensures at { OnOk result ((self.new.function ≡ function) × (self.new.place ≡ place)) }
+        ensures tells { OnOk result (Tells m.now.link.now m.now.entries.now self.new) }
+    {
+        if self.function == function && self.place == place {
+            return Ok(());
+        }
+        *self = Known::at(alloc, m, function, place)?;
+        Ok(())
+    }
+}

@@ -1,0 +1,60 @@
+//! What fills the slots of a new frame.
+
+ghost use Rattle.std.specs.Prelude.{◌≡◌, IfOk};
+ghost use Rattle.std.specs.Option.{option_map};
+ghost use Rattle.c_tree.specs.Fillings.{filling};
+ghost use Rattle.c_tree.specs.MapStack as spec;
+ghost use Rattle.c_tree.specs.Step.{function_of};
+ghost use Rattle.c_tree.specs.declared.lifted.LExpr.TheVariants as l;
+
+use c_tree::{LExpr, LFill, Row};
+use fillings::carried;
+use patch_match::Link;
+use std::alloc::{AllocError, Global};
+
+/// What a new slot takes where no entry fills it: the old slot, else 0.
+fn carried_slot(old: Option<u32>) -> LExpr
+    ensures { result ≡ filling None (option_map (λ i. l.Slot i) old) }
+{
+    match old {
+        Some(old) => LExpr::Slot(old),
+        None => LExpr::Num(0),
+    }
+}
+
+/// The declared expression of a slot, else the old slot, else 0.
+fn slot_filling(
+    alloc: Global,
+    fills: &[LFill],
+    slot: usize,
+    old: Option<u32>,
+) -> Result<LExpr, AllocError>
+    ensures { IfOk result (λ e. e ≡ filling (spec.fill_for fills.now slot) (option_map (λ i. l.Slot i) old)) }
+{
+    for fill in fills {
+        if fill.slot as usize == slot {
+            return fill.expr.copy(alloc);
+        }
+    }
+    Ok(carried_slot(old))
+}
+
+/// What fills the slots of a frame of the new function `g` that was one of the old function `f`.
+pub fn slot_fillings(
+    alloc: Global,
+    k: &Link<'_>,
+    f: u32,
+    g: u32,
+    fills: &[LFill],
+) -> Result<Row<LExpr>, AllocError>
+    ensures { IfOk result (λ es. es ≡
+        spec.slot_fillings k.now (function_of k.now.old f).slots fills.now (function_of k.now.new g).slots) }
+{
+    let olds = k.old().slots(f);
+    let mut made = Vec::new(alloc);
+    for (j, slot) in k.new().slots(g).iter().enumerate() {
+        let old = carried(k, olds, k.old().slot(f, &slot.name), slot)?;
+        made.push(slot_filling(alloc, fills, j, old)?)?;
+    }
+    Ok(Row::from_vec(made))
+}

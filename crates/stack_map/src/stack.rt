@@ -1,0 +1,55 @@
+//! The frames of one thread.
+
+ghost use Rattle.std.specs.Prelude.{◌≡◌, IfOk, MatchResult, Ok};
+ghost use Rattle.c_tree.specs.MapStack as spec;
+ghost use Rattle.fillings.specs.Refusal.{IsRefusal};
+
+use crate::frame_map::FrameMap;
+use crate::frames::map_frames;
+use crate::known::Known;
+use crate::parts::has_map;
+use c_tree::{Frame, Reason, Row, State};
+use fillings::MapEnd;
+use patch_match::narrowed;
+use std::alloc::{AllocError, Global};
+
+/// The reason against the first frame of a thread that has no map.
+pub fn unmapped_frame(
+    m: &FrameMap<'_, '_>,
+    thread: u32,
+    frames: &[Frame],
+) -> Result<Option<Reason>, AllocError>
+    ensures { IfOk result (λ r. r ≡ spec.unmapped m.now.link.now m.now.entries.now thread 0 frames.now) }
+{
+    for i in 0..frames.len() {
+        if !has_map(m, frames[i].function, frames[i].place) {
+            return Ok(Some(Reason::Unmapped(thread, narrowed(i)?)));
+        }
+    }
+    Ok(None)
+}
+
+/// The new frames of an old thread, outermost first, as its old ones. Refused is the first frame
+/// that has no map, else the first slot that traps. More than 4,294,967,296 frames count as want of
+/// memory.
+pub fn map_stack(
+    alloc: Global,
+    m: &FrameMap<'_, '_>,
+    state: &State,
+    thread: u32,
+    frames: &[Frame],
+) -> Result<Row<Frame>, MapEnd>
+    ensures { let wanted = spec.map_stack m.now.link.now m.now.entries.now state.now thread frames.now in
+        MatchResult result (λ fs. wanted ≡ Ok fs) (IsRefusal wanted) }
+{
+    match unmapped_frame(m, thread, frames) {
+        Ok(None) => {}
+        Ok(Some(reason)) => return Err(MapEnd::Refused(reason)),
+        Err(e) => return Err(MapEnd::Memory(e)),
+    }
+    // Any place will do to begin with.
+    match Known::at(alloc, m, 0, 0) {
+        Ok(mut known) => map_frames(alloc, m, &mut known, state, thread, frames),
+        Err(e) => Err(MapEnd::Memory(e)),
+    }
+}

@@ -1,0 +1,10 @@
+use Rattle.std.proofs.Common.{◌<◌, length, arith}
+use Rattle.std.proofs.lemmas.Grind.{common_steps}
+use Rattle.state_transform.proofs.OriginLemmas.{origins_next}
+use Rattle.state_transform.proofs.origins.mutex_origins.Goals as goal
+
+pub loop-i-preserved : goal.loop-i-preserved
+loop-i-preserved c =
+    let within : c.loop-i.i < length c.args.k.now.old.mutexes = grind (arith, common_steps) in
+    origins_next c.loop-i.origins c.add_origin.new.origins c.args.k.now.mutexes _ c.loop-i.i c.in_ok-at.at c.mutex.result c.requires.mutexes within (c.in_ok-at.ensures {u = tt}) c.mutex.ensures
+    c.loop-i.invariant (c.in_ok-add_origin.ensures {u = tt})

@@ -1,0 +1,3 @@
+pub mod SameLemmas
+pub mod StmtLemmas
+pub mod BodyLemmas
