@@ -8,6 +8,7 @@ pub mod States
 pub mod First
 pub mod Steps
 pub mod Runs
+pub mod WholeRuns
 pub mod PlaceKinds
 pub mod TypedValues
 pub mod Filled

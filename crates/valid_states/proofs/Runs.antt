@@ -27,7 +27,7 @@ Sound p c = (c.program ≡ p) × Valid p c.state
 abbrev pub SoundUntil : Lifted → Core → Type 0
 SoundUntil p c = c.phase ≢ phase.Updated → Sound p c
 
-legal_keeps : (P : Core → Type 0) (b : Bool) (c : Core) → (b ≡ true → P c) → IfSome (legal b c) P
+pub legal_keeps : (P : Core → Type 0) (b : Bool) (c : Core) → (b ≡ true → P c) → IfSome (legal b c) P
 legal_keeps P true c h = h refl
 legal_keeps P false c h = tt
 
@@ -36,14 +36,14 @@ while_keeps P None c h = h
 while_keeps P (Some x) c h = tt
 
 -- what each event keeps holds after a run
-runs_keep : (P : Core → Type 0) (k : Settings) → ((c : Core) (x : EventKind) → P c → IfSome (table k c x) P) → (events : List Event) (c : Option Core) → IfSome c P → IfSome (fold (after k) c events) P
+pub runs_keep : (P : Core → Type 0) (k : Settings) → ((c : Core) (x : EventKind) → P c → IfSome (table k c x) P) → (events : List Event) (c : Option Core) → IfSome c P → IfSome (fold (after k) c events) P
 unfolding next
 runs_keep P k keeps [] c h = h
 runs_keep P k keeps (x ∷ events) None h = runs_keep P k keeps events None tt
 runs_keep P k keeps (x ∷ events) (Some c) h = runs_keep P k keeps events (next k c x.kind) (while_keeps P (over k c) (table k c x.kind) (keeps c x.kind h))
 
 -- a step leaves the phase
-stepped_phase : (c : Core) (t : ℕ) (o : Outcome) → (stepped c t o).phase ≡ c.phase
+pub stepped_phase : (c : Core) (t : ℕ) (o : Outcome) → (stepped c t o).phase ≡ c.phase
 stepped_phase c t (Done s) = refl
 stepped_phase c t (Trapped cause) = refl
 stepped_phase c t (Finished n) = refl
@@ -56,7 +56,7 @@ stepped_sound p c t (Finished n) h f = h
 stepped_sound p c t Blocked h f = h
 
 -- where an update may be asked or decided, none was made
-first_true : (a b : Bool) → (a && b) ≡ true → a ≡ true
+pub first_true : (a b : Bool) → (a && b) ≡ true → a ≡ true
 first_true true b e = refl
 first_true false b e = e
 
@@ -68,8 +68,12 @@ second_true false false c d e = e
 not_before : (x : Phase) → is_before x ≡ true → x ≢ phase.Updated
 not_before x e = λ u. let no : false ≡ true = sym (ap is_before u) ∙ e in absurd (let k : ⊥ = cc in k)
 
-not_asked : (x : Phase) → is_asked x ≡ true → x ≢ phase.Updated
+pub not_asked : (x : Phase) → is_asked x ≡ true → x ≢ phase.Updated
 not_asked x e = λ u. let no : false ≡ true = sym (ap is_asked u) ∙ e in absurd (let k : ⊥ = cc in k)
+
+-- a Request comes before an update
+pub is_before_due : (k : Settings) (c : Core) → is_due k c ≡ true → c.phase ≢ phase.Updated
+is_before_due k c due = not_before c.phase (second_true _ (is_before c.phase) _ _ due)
 
 updated_sound : (p : Lifted) (k : Settings) (c : Core) (r : Result State Reason) → IfSome (updated k c r) (SoundUntil p)
 updated_sound p k c (Ok s) = λ some. absurd (some refl)

@@ -1,6 +1,6 @@
 -- The update of a valid state by a sound patch is a valid state.
 use Rattle.std.proofs.Common.{◌≡◌, ◌⊎◌, inl, inr, ℕ, ◌+◌, ◌<◌, Bool, true, false, not, List, [], ◌∷◌, Option, Some, None, refl, sym, ◌∙◌, ap, subst, length, nat_lt, arith}
-use Rattle.std.specs.Prelude.{zero, suc, ℤ, pos, negsuc, find, ◌==◌, ◌&&◌, ◌||◌, cond, if◌then◌else◌, codes, slice_get, Ok}
+use Rattle.std.specs.Prelude.{zero, suc, find, ◌==◌, ◌&&◌, ◌||◌, cond, if◌then◌else◌, codes, slice_get, Ok}
 use Rattle.std.specs.Option.{option_map, option_flatten}
 use Rattle.std.specs.List.{list_any, position_from}
 use Rattle.std.proofs.lemmas.Option.{none-some, same_Some, slice_get_within}
@@ -10,14 +10,13 @@ use Rattle.c_tree.specs.declared.ty.Ty.{Ty}
 use Rattle.c_tree.specs.declared.ty.Ty.TheVariants as ty
 use Rattle.c_tree.specs.declared.lifted.Lifted.{Lifted}
 use Rattle.c_tree.specs.declared.lifted.LFunction.{LFunction}
-use Rattle.c_tree.specs.declared.lifted.LGlobal.{LGlobal}
 use Rattle.c_tree.specs.declared.lifted.Slot.{Slot}
 use Rattle.c_tree.specs.declared.mapping.LEntry.{LEntry}
 use Rattle.c_tree.specs.declared.state.State.{State}
 use Rattle.c_tree.specs.Scope.{is_same_name}
 use Rattle.c_tree.specs.Types.{is_any_pointer}
 use Rattle.c_tree.specs.Step.{function_of}
-use Rattle.c_tree.specs.Valid.{Refers, CanStart, Valid}
+use Rattle.c_tree.specs.Valid.{CanStart, Valid}
 use Rattle.c_tree.specs.Names.{is_number, find_name, names_in}
 use Rattle.c_tree.specs.Link.{Link, Claim, new_side, unclaimed, match_of, matches, match_at, origin, link_of, takes_pointer, is_start, start_alike, any_two}
 use Rattle.c_tree.specs.Suits.{start_differs, loses_start}

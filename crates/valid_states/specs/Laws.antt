@@ -1,5 +1,5 @@
 -- What holds of every state of a run.
-use Rattle.std.specs.Prelude.{◌≡◌, ◌≢◌, ℕ, List, Some, None, Ok}
+use Rattle.std.specs.Prelude.{◌≡◌, ◌≢◌, ℕ, List, Some, None, IfSome, Ok}
 use Rattle.c_tree.specs.declared.lifted.Lifted.{Lifted}
 use Rattle.c_tree.specs.declared.state.State.{State}
 use Rattle.c_tree.specs.declared.run.Phase.TheVariants as phase
@@ -35,3 +35,16 @@ RunsStayValidUntilUpdate =
 abbrev pub UpdatesStayValid : Type 0
 UpdatesStayValid =
     (patch : Patch) (s next : State) → IsFormed patch.old → IsFormed patch.new → Sound patch.old patch.new patch.entries → Valid patch.old s → update patch s ≡ Ok next → Valid patch.new next
+
+-- the armed patch, where there is one, is sound, of this old program and leads to a formed one
+pub record IsArmedBy (p : Lifted) (patch : Patch) : Type 0 where
+  pub old : patch.old ≡ p
+  pub new : IsFormed patch.new
+  pub sound : Sound patch.old patch.new patch.entries
+
+abbrev pub IsWellArmed : Settings → Type 0
+IsWellArmed k = IfSome k.armed (λ a. IsArmedBy k.program a.patch)
+
+-- and so each state of a run is valid for the program that runs then, through an update too
+abbrev pub WholeRunsStayValid : Type 0
+WholeRunsStayValid = (k : Settings) (events : List Event) (c : Core) → IsFormed k.program → IsWellArmed k → run k events ≡ Some c → IsFormed c.program × Valid c.program c.state

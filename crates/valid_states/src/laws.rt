@@ -1,6 +1,6 @@
 //! What holds of every state of a run.
 
-ghost use Rattle.valid_states.specs.Laws.{StartIsValid, StepsStayValid, RunsStayValid, RunsStayValidUntilUpdate, UpdatesStayValid};
+ghost use Rattle.valid_states.specs.Laws.{StartIsValid, StepsStayValid, RunsStayValid, RunsStayValidUntilUpdate, UpdatesStayValid, WholeRunsStayValid};
 
 /// A formed program starts in a valid state.
 pub fn first_state_is_valid()
@@ -23,4 +23,10 @@ pub fn runs_stay_valid()
 /// new, where both programs are formed.
 pub fn updates_stay_valid()
     ensures { UpdatesStayValid }
+{}
+
+/// Each state that a run of a formed program comes to is valid for the program that runs then, where
+/// the patch that is armed, if any, is sound and leads from this program to a formed one.
+pub fn whole_runs_stay_valid()
+    ensures { WholeRunsStayValid }
 {}
