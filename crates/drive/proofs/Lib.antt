@@ -1,5 +1,15 @@
+pub mod BoolLemmas
 pub mod FindLemmas
 pub mod FilterLemmas
+pub mod ThreadsStay
+pub mod MeasureLemmas
+pub mod ChosenLemmas
+pub mod CameLemmas
+pub mod KeptLemmas
+pub mod RankLemmas
+pub mod NoEvent
+pub mod OnwardLemmas
 pub mod OnWayLemmas
 pub mod ListLemmas
+pub mod TakeLemmas
 pub mod OnePlan

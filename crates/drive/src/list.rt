@@ -1,12 +1,12 @@
 //! A run by a listing of events.
 
-ghost use Rattle.std.specs.Prelude.{◌≡◌, [], IfOk, None};
-ghost use Rattle.c_tree.specs.Plan.{IsQuiet, refused_at};
+ghost use Rattle.std.specs.Prelude.{◌≡◌, [], IfOk};
+ghost use Rattle.c_tree.specs.Plan.{refused_at};
 ghost use Rattle.c_tree.specs.Run.{first};
-ghost use Rattle.world_core.specs.History.{core};
-ghost use Rattle.drive.specs.Listed.{refusal, EndsAs, Taken};
+ghost use Rattle.drive.specs.Listed.{refusal, EndsAs};
 
-use c_tree::{Event, EventKind};
+use crate::take::take_event;
+use c_tree::Event;
 use std::alloc::AllocError;
 use world_core::{End, World};
 
@@ -21,36 +21,14 @@ pub enum Driven {
     ListRefused(u64),
 }
 
-/// Makes an event where it is legal, and says whether it is.
-fn take_event(world: &mut World, worker: u32, kind: EventKind) -> Result<bool, AllocError>
-    requires { IsQuiet world.old.settings (core world.old) }
-    ensures taken { IfOk result (λ b. Taken b world.old world.new worker kind) }
-    ensures same { world.new.settings ≡ world.old.settings }
-{
-    match kind {
-        EventKind::Step(t) => {
-            if !world.may_turn(t) {
-                return Ok(false);
-            }
-            world.turn(worker, t)?;
-            Ok(true)
-        }
-        EventKind::Request => Ok(false),
-        EventKind::Park(_) => Ok(false),
-        EventKind::Update => Ok(false),
-        EventKind::Refuse(_) => Ok(false),
-        EventKind::Resume(_) => Ok(false),
-    }
-}
-
 /// Makes the listed events, each by the worker that it names.
 ///
 /// # Errors
 ///
-/// Where memory is short. The World then holds the events up to there.
+/// Where memory is short, also for a listed outcome of the update. The World then holds the events
+/// up to there.
 pub fn drive_list(world: &mut World, listed: &[Event], clean: bool) -> Result<Driven, AllocError>
     requires new { world.old.events ≡ [] }
-    requires unarmed { world.old.settings.armed ≡ None }
     ensures answer { IfOk result (λ d. refusal d ≡ refused_at world.old.settings clean 1 (first world.old.settings) listed.now) }
     ensures ended { IfOk result (λ d. EndsAs d clean world.new listed.now) }
     ensures same { world.new.settings ≡ world.old.settings }

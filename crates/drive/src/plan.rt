@@ -1,6 +1,6 @@
 //! The plan of a run.
 
-ghost use Rattle.std.specs.Prelude.{◌≡◌, [], IfOk, None};
+ghost use Rattle.std.specs.Prelude.{◌≡◌, [], IfOk};
 ghost use Rattle.drive.specs.Driven.{IsDriven};
 
 use crate::list::{Driven, drive_list};
@@ -25,10 +25,10 @@ pub enum Plan {
 ///
 /// # Errors
 ///
-/// Where memory is short. The World then holds the events up to there.
+/// Where memory is short: by a listing for any event, else for any but the outcome of the update,
+/// which is a refusal then. The World holds the events up to there.
 pub fn drive(world: &mut World, plan: Plan) -> Result<Driven, AllocError>
     requires new { world.old.events ≡ [] }
-    requires unarmed { world.old.settings.armed ≡ None }
     ensures driven { IfOk result (λ d. IsDriven plan world.old.settings world.new d) }
     ensures same { world.new.settings ≡ world.old.settings }
 {

@@ -1,9 +1,10 @@
 -- What the state of a World says of its history, and what one more event keeps.
 use Rattle.std.proofs.Common.{◌≡◌, ℕ, ◌+◌, ◌^◌, ◌≤◌, ◌<◌, Bool, true, false, not, ◌&&◌, List, [], ◌∷◌, ◌++◌, map, length, Option, Some, None, refl, ap, sym, subst, ◌∙◌, arith}
-use Rattle.std.specs.Prelude.{is_some, unwrap_or, ◌==◌}
+use Rattle.std.specs.Prelude.{is_some, unwrap_or, ◌==◌, vec_len, vec_capacity}
 use Rattle.std.proofs.lemmas.Bool.Decides.{nat_tests}
 use Rattle.c_tree.specs.declared.run.End.TheVariants as end
 use Rattle.c_tree.specs.declared.event.Event.{Event}
+use Rattle.c_tree.specs.declared.event.EventKind.{EventKind}
 use Rattle.c_tree.specs.declared.event.EventKind.TheVariants as e
 use Rattle.c_tree.specs.declared.lifted.Lifted.{Lifted}
 use Rattle.c_tree.specs.declared.run.End.{End}
@@ -15,9 +16,12 @@ use Rattle.c_tree.specs.Step.{Outcome, Done, Trapped, Finished, Blocked, step}
 use Rattle.c_tree.proofs.RunLemmas.{run-more, next-Step, may_step-able}
 use Rattle.c_tree.proofs.StepLemmas.{stepped-steps}
 use Rattle.c_tree.proofs.ThreadLemmas.{Few, step_few}
+use Rattle.world_core.proofs.RefusedLemmas.{IsNoRefusal, quiet-more}
 use Rattle.world_core.specs.CoreAt.{core_at, present}
-use Rattle.world_core.specs.History.{History, core, over, may_turn, IsRun}
-use Rattle.world_core.specs.Sound.{IsSound, history_of, now_of, program_of}
+use Rattle.world_core.specs.History.{History, core, over, may_turn, with_event, IsMade, IsRun}
+use Rattle.world_core.specs.Refused.{place_named, refused_in}
+use Rattle.world_core.specs.Room.{owed}
+use Rattle.world_core.specs.Sound.{IsFit, IsSound, history_of, now_of, program_of}
 use Rattle.world_core.specs.declared.now.Now.{Now}
 use Rattle.world_core.specs.declared.world.World.TheInside.{Inside}
 
@@ -25,7 +29,7 @@ core_is : (k : Settings) (es : List Event) (c : r.Core) → r.run k es ≡ Some 
 unfolding core
 core_is k es c e = ap (λ o. unwrap_or o (r.first k)) e
 
-core_inside : (w : Inside) → IsSound w → core (history_of w) ≡ now_of w
+pub core_inside : (w : Inside) → IsSound w → core (history_of w) ≡ now_of w
 core_inside w s = core_is w.settings w.events.items (now_of w) s.leads
 
 pub told : (w : Inside) (h : History) → history_of w ≡ h → IsSound w → core h ≡ now_of w
@@ -53,7 +57,7 @@ pub standing_told : (w : Inside) (h : History) (p : Lifted) (t : ℕ) → histor
     → standing p w.here.state t ≡ standing (core h).program (core h).state t
 standing_told w h p t v s e = ap (λ q. standing q w.here.state t) e ∙ ap (λ c. standing c.program c.state t) (sym (told w h v s))
 
-under : (o : Option End) (b c : Bool) → o ≡ None → b ≡ c → b ≡ (not (is_some o) && c)
+pub under : (o : Option End) (b c : Bool) → o ≡ None → b ≡ c → b ≡ (not (is_some o) && c)
 under None b c e f = f
 under (Some x) b c e f = cc
 
@@ -61,7 +65,7 @@ pub may_turn_told : (w : Inside) (h : History) (p : Lifted) (t : ℕ) (b : Bool)
     → over h ≡ None → b ≡ r.may_step w.settings (core_at p w.here) t → b ≡ may_turn h t
 may_turn_told w h p t b v s e o f = under (over h) b (r.may_step h.settings (core h) t) o (f ∙ step_told w h p t v s e)
 
-parts : (o : Option End) (b : Bool) → (not (is_some o) && b) ≡ true → (o ≡ None) × (b ≡ true)
+pub parts : (o : Option End) (b : Bool) → (not (is_some o) && b) ≡ true → (o ≡ None) × (b ≡ true)
 parts None b e = (refl, e)
 parts (Some x) b e = cc
 
@@ -109,24 +113,79 @@ below_limit None d n limit e h = less n limit (not_at (n == limit) d e) h
 pub turn_within : (w : Inside) (h : History) (t : ℕ) → history_of w ≡ h → IsSound w → may_turn h t ≡ true → w.here.steps < w.settings.limit
 turn_within w h t v s m = below_limit w.here.ended _ w.here.steps w.settings.limit (turn_over w h t v s m) s.within
 
+owed_stays : (c : r.Core) (t : ℕ) (o : Outcome) → owed (r.stepped c t o).phase (r.stepped c t o).parked ≡ owed c.phase c.parked
+owed_stays c t (Done s) = refl
+owed_stays c t (Trapped x) = refl
+owed_stays c t (Finished n) = refl
+owed_stays c t Blocked = refl
+
+-- what an event leaves that is no refusal
+pub calm_refused : (w w2 : Inside) (x : Event) → w2.settings ≡ w.settings → w2.events.items ≡ w.events.items ++ x ∷ [] → IsNoRefusal x.kind
+    → refused_in w2.settings (r.first w2.settings) w2.events.items ≡ refused_in w.settings (r.first w.settings) w.events.items
+calm_refused w w2 x a ev q =
+    ap (λ k. refused_in k (r.first k) w2.events.items) a
+    ∙ (ap (λ es. refused_in w.settings (r.first w.settings) es) ev ∙ quiet-more w.settings (r.first w.settings) w.events.items x q)
+
+-- the events with one more lead to where the run stands now
+pub leads_on : (w w2 : Inside) (x : Event) → IsSound w → w2.settings ≡ w.settings → w2.events.items ≡ w.events.items ++ x ∷ []
+    → r.next w.settings (now_of w) x.kind ≡ Some (now_of w2) → r.run w2.settings w2.events.items ≡ Some (now_of w2)
+leads_on w w2 x s a ev nx =
+    ap (λ k. r.run k w2.events.items) a
+    ∙ (ap (λ es. r.run w.settings es) ev ∙ run-more w.settings (r.first w.settings) (now_of w) (now_of w2) w.events.items x s.leads nx)
+
+turn_next : (w w2 : Inside) (h : History) (t : ℕ) → history_of w ≡ h → IsSound w → may_turn h t ≡ true → program_of w2 ≡ program_of w
+    → core_at (program_of w) w2.here ≡ r.stepped (now_of w) t (step (program_of w) t w.here.state) → r.next w.settings (now_of w) (e.Step t) ≡ Some (now_of w2)
+turn_next w w2 h t v s m pq st =
+    next-Step w.settings (now_of w) t (turn_over w h t v s m) (turn_may w h t v s m)
+    ∙ ap (λ c. let x : Option r.Core = Some c in x) (sym (ap (λ p. core_at p w2.here) pq ∙ st))
+
+turn_program : (w w2 : Inside) (t : ℕ) → w2.settings ≡ w.settings
+    → core_at (program_of w) w2.here ≡ r.stepped (now_of w) t (step (program_of w) t w.here.state) → program_of w2 ≡ program_of w
+turn_program w w2 t a st =
+    let ph : w2.here.phase ≡ w.here.phase = ap (λ c. c.phase) st ∙ phase_stays (now_of w) t (step (program_of w) t w.here.state) in
+    ap (λ p. present p w2.settings.armed w2.settings.program) ph ∙ ap (λ k. present w.here.phase k.armed k.program) a
+
 pub turn_sound : (w w2 : Inside) (h : History) (worker t : ℕ) → history_of w ≡ h → IsSound w → may_turn h t ≡ true
-    → w2.settings ≡ w.settings → w2.places ≡ w.places → w2.events.items ≡ w.events.items ++ (record { worker = worker; kind = e.Step t }) ∷ []
-    → core_at (program_of w) w2.here ≡ r.stepped (now_of w) t (step (program_of w) t w.here.state) → IsSound w2
-turn_sound w w2 h worker t v s m a b ev st =
+    → w2.settings ≡ w.settings → w2.places ≡ w.places → w2.named ≡ w.named
+    → w2.events.items ≡ w.events.items ++ (record { worker = worker; kind = e.Step t }) ∷ []
+    → core_at (program_of w) w2.here ≡ r.stepped (now_of w) t (step (program_of w) t w.here.state)
+    → vec_len w2.events + owed w.here.phase w.here.parked.items ≤ vec_capacity w2.events → IsSound w2
+turn_sound w w2 h worker t v s m a b um ev st room =
     let d = now_of w in
     let o = step (program_of w) t w.here.state in
-    let c2 = r.stepped d t o in
+    let x : Event = record { worker = worker; kind = e.Step t } in
+    let pq = turn_program w w2 t a st in
     let ph : w2.here.phase ≡ w.here.phase = ap (λ c. c.phase) st ∙ phase_stays d t o in
-    let pq : program_of w2 ≡ program_of w = ap (λ p. present p w2.settings.armed w2.settings.program) ph ∙ ap (λ k. present w.here.phase k.armed k.program) a in
     let grow : w2.here.steps ≤ w.here.steps + 1 = subst (λ c. c.steps ≤ w.here.steps + 1) (sym st) (steps_grow d t o) in
-    let more = run-more w.settings (r.first w.settings) d c2 w.events.items (record { worker = worker; kind = e.Step t }) s.leads (next-Step w.settings d t (turn_over w h t v s m) (turn_may w h t v s m)) in
+    let calm = calm_refused w w2 x a ev (λ c z. refl) in
     record {
-      leads = ap (λ k. r.run k w2.events.items) a ∙ (ap (λ es. r.run w.settings es) ev ∙ (more ∙ ap (λ c. let x : Option r.Core = Some c in x) (sym (ap (λ p. core_at p w2.here) pq ∙ st))));
+      leads = leads_on w w2 x s a ev (turn_next w w2 h t v s m pq st);
       placed = ap (λ ps. ps.functions) b ∙ (s.placed ∙ ap (λ p. map places p.functions) (sym pq));
       few = subst (λ c. length c.state.threads ≤ 1000) (sym st) (few_stay d t o s.few (step_few (program_of w) t w.here.state s.few));
       within = subst (λ k. w2.here.steps ≤ k.limit) (sym a) (let below : w.here.steps < w.settings.limit = turn_within w h t v s m in omega arith);
       limit = subst (λ k. k.limit < 2 ^ 32) (sym a) s.limit;
+      armed = subst (λ k. IsFit k.program k.armed) (sym a) s.armed;
+      room = subst (λ n. vec_len w2.events + n ≤ vec_capacity w2.events) (sym (ap (λ c. owed c.phase c.parked) st ∙ owed_stays d t o)) room;
+      named = um ∙ (s.named ∙ ap place_named (sym calm));
+      unrefused = λ n. calm ∙ s.unrefused (ap r.is_after (sym ph) ∙ n);
     }
+
+-- an event was made
+pub is_made : (w w2 : Inside) (h h2 : History) (worker : ℕ) (kind : EventKind) → history_of w ≡ h → IsSound w → history_of w2 ≡ h2 → IsSound w2
+    → w2.settings ≡ w.settings → w2.events.items ≡ w.events.items ++ (record { worker = worker; kind = kind }) ∷ []
+    → r.next w.settings (now_of w) kind ≡ Some (now_of w2) → IsMade h h2 worker kind
+is_made w w2 h h2 worker kind v s v2 s2 a ev nx = record {
+  ok = sym v2 ∙ (ap (λ k. let g : History = record { settings = k; events = w2.events.items } in g) a
+      ∙ (ap (λ es. let g : History = record { settings = w.settings; events = es } in g) ev ∙ ap (λ g. with_event g worker kind) v));
+  core = subst (λ g. r.next g.settings (core g) kind ≡ Some (core h2)) v
+      (ap (λ c. r.next w.settings c kind) (core_inside w s) ∙ (nx ∙ ap (λ c. let x : Option r.Core = Some c in x) (sym (told w2 h2 v2 s2))));
+}
+
+pub turn_made : (w w2 : Inside) (h h2 : History) (worker t : ℕ) → history_of w ≡ h → IsSound w → may_turn h t ≡ true → history_of w2 ≡ h2 → IsSound w2
+    → w2.settings ≡ w.settings → w2.events.items ≡ w.events.items ++ (record { worker = worker; kind = e.Step t }) ∷ []
+    → core_at (program_of w) w2.here ≡ r.stepped (now_of w) t (step (program_of w) t w.here.state) → IsMade h h2 worker (e.Step t)
+turn_made w w2 h h2 worker t v s m v2 s2 a ev st =
+    is_made w w2 h h2 worker (e.Step t) v s v2 s2 a ev (turn_next w w2 h t v s m (turn_program w w2 t a st) st)
 
 pub none_if : (x : Option End) (h : History) → x ≡ over h → is_some x ≡ false → over h ≡ None
 none_if None h e f = sym e

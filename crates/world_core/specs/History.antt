@@ -3,6 +3,7 @@ use Rattle.std.specs.Prelude.{◌≡◌, ℕ, Bool, not, ◌&&◌, is_some, List
 use Rattle.c_tree.specs.declared.event.Event.{Event}
 use Rattle.c_tree.specs.declared.event.EventKind.{EventKind}
 use Rattle.c_tree.specs.declared.lifted.Lifted.{Lifted}
+use Rattle.c_tree.specs.declared.mapping.Patch.{Patch}
 use Rattle.c_tree.specs.declared.run.End.{End}
 use Rattle.c_tree.specs.declared.run.Settings.{Settings}
 use Rattle.c_tree.specs.Run as r
@@ -26,8 +27,34 @@ IsRun h = r.run h.settings h.events ≡ Some (core h)
 abbrev pub over : History → Option End
 over h = r.over h.settings (core h)
 
+-- a test that holds while the run is on
+abbrev pub on : History → Bool → Bool
+on h b = not (is_some (over h)) && b
+
+-- which events are legal now
 abbrev pub may_turn : History → ℕ → Bool
-may_turn h t = not (is_some (over h)) && r.may_step h.settings (core h) t
+may_turn h t = on h (r.may_step h.settings (core h) t)
+
+abbrev pub may_request : History → Bool
+may_request h = on h (r.is_due h.settings (core h))
+
+abbrev pub may_park : History → ℕ → Bool
+may_park h t = on h (r.may_park (core h) t)
+
+abbrev pub may_commit : History → Bool
+may_commit h = on h (r.may_decide (core h))
+
+abbrev pub may_resume : History → ℕ → Bool
+may_resume h t = on h (r.may_resume (core h) t)
 
 abbrev pub with_event : History → ℕ → EventKind → History
 with_event h worker kind = record h { events = h.events ++ (record { worker = worker; kind = kind }) ∷ [] }
+
+-- an event was made: it is the last one now, and the core follows from the one before
+pub record IsMade (before after : History) (worker : ℕ) (kind : EventKind) : Type 0 where
+  pub ok : after ≡ with_event before worker kind
+  pub core : r.next before.settings (core before) kind ≡ Some (core after)
+
+-- a patch is armed, to be asked for after so many Steps
+abbrev pub armed_with : History → Patch → ℕ → History
+armed_with h patch at = record h { settings = record h.settings { armed = Some (record { patch = patch; at = at }) } }

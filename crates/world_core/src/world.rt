@@ -1,18 +1,27 @@
 //! The world: a run whose state is what its events lead to.
 
-ghost use Rattle.std.specs.Prelude.{◌≡◌, ◌≤◌, ◌<◌, ◌+◌, IsTrue, IfOk, OnOk, OnErr, map, length, None};
+ghost use Rattle.std.specs.Prelude.{◌≡◌, ◌≤◌, ◌<◌, ◌+◌, IsTrue, IfOk, IfSome, OnOk, OnErr, map, length};
+ghost use Rattle.std.specs.Option.{option_map};
 ghost use Rattle.c_tree.specs.Able.{able, standing};
 ghost use Rattle.c_tree.specs.Layout as layout;
-ghost use Rattle.c_tree.specs.Run.{stepped, may_step};
+ghost use Rattle.c_tree.specs.Run.{stepped};
+ghost use Rattle.c_tree.specs.Sound.{Sound};
 ghost use Rattle.c_tree.specs.Step.{step};
 ghost use Rattle.c_tree.specs.declared.event.EventKind.TheVariants as e;
 ghost use Rattle.c_places.specs.Limit.{KeepsLimit};
-ghost use Rattle.world_core.specs.History.{begun, core, over, may_turn, with_event, IsRun};
+ghost use Rattle.world_core.specs.History.{begun, core, over, may_turn, with_event, IsMade, IsRun};
+ghost use Rattle.world_core.specs.Outcome.{outcome};
+ghost use Rattle.world_core.specs.Refused.{named_at_refusal};
 
-use crate::now::{Now, may_step, over, present, step_now};
+mod gate;
+mod may;
+mod update;
+
+use crate::now::{Now, over, owed, present, step_now};
+use crate::outcome::{Outcome, how_far};
 use c_meaning::able::{able, standing};
 use c_places::places;
-use c_tree::{End, Event, EventKind, Lifted, Phase, Places, Row, Settings, State, Text};
+use c_tree::{End, Event, EventKind, Lifted, Patch, Phase, Places, Row, Settings, State, Text};
 use std::alloc::{AllocError, Global};
 use std::marker::Model;
 
@@ -23,6 +32,8 @@ pub struct World {
     places: Places,
     events: Vec<Event>,
     here: Now,
+    /// What the refusal of the update names, as it stood then.
+    named: (u32, u32),
 }
 
 impl Model for World {
@@ -74,6 +85,7 @@ impl World {
             places,
             events,
             here,
+            named: (0, 0),
         })
     }
 
@@ -85,6 +97,7 @@ impl World {
         self.here.state.threads.len() as u32
     }
 
+    /// How many Steps were made.
     pub fn steps(&self) -> u64
         ensures { result ≡ (core self.now).steps }
     {
@@ -99,6 +112,7 @@ impl World {
         self.here.state.output.as_bytes()
     }
 
+    /// The events so far. They are a legal run.
     pub fn events(&self) -> &[Event]
         ensures value { result.now ≡ self.now.events }
         ensures legal { IsRun self.now }
@@ -106,6 +120,7 @@ impl World {
         self.events.as_slice()
     }
 
+    /// How the run is over, if it is.
     pub fn over(&self) -> Option<End>
         ensures { result ≡ over self.now }
     {
@@ -114,30 +129,6 @@ impl World {
             present(&self.settings, self.here.phase),
             &self.places,
             &self.here,
-        )
-    }
-
-    /// Whether a Step of the thread is legal.
-    pub fn may_turn(&self, t: u32) -> bool
-        ensures { result ≡ may_turn self.now t }
-    {
-        self.over().is_none() && self.may_step(t)
-    }
-
-    /// Whether a Step of the thread is legal, where the caller knows that the run isn't over.
-    ///
-    /// It looks at this thread alone, while `may_turn` may look at all.
-    pub fn may_step(&self, t: u32) -> bool
-        requires { over self.now ≡ None }
-        ensures step { result ≡ may_step self.now.settings (core self.now) t }
-        ensures turn { result ≡ may_turn self.now t }
-    {
-        may_step(
-            &self.settings,
-            present(&self.settings, self.here.phase),
-            &self.places,
-            &self.here,
-            t,
         )
     }
 
@@ -173,6 +164,34 @@ impl World {
         &self.settings.program
     }
 
+    /// The patch that is armed.
+    pub fn patch(&self) -> Option<&Patch>
+        ensures value { option_map (λ p. p.now) result ≡ option_map (λ a. a.patch) self.now.settings.armed }
+        ensures sound { IfSome result (λ p. Sound p.now.old p.now.new p.now.entries) }
+        ensures old_limit { IfSome result (λ p. KeepsLimit p.now.old) }
+        ensures new_limit { IfSome result (λ p. KeepsLimit p.now.new) }
+    {
+        match &self.settings.armed {
+            Some(armed) => Some(&armed.patch),
+            None => None,
+        }
+    }
+
+    /// How far the update has come.
+    pub fn outcome(&self) -> Outcome
+        ensures { result ≡ outcome self.now }
+    {
+        how_far(&self.settings.armed, self.here.phase)
+    }
+
+    /// What the refusal of the update names, as it stood then: of a frame its function and its place,
+    /// of an object its struct and 0; zeroes where the reason names neither, or none was refused.
+    pub fn named_at_refusal(&self) -> (u32, u32)
+        ensures { result ≡ named_at_refusal self.now }
+    {
+        self.named
+    }
+
     /// Gives the events and drops all else, with no copy.
     pub fn into_events(self) -> Row<Event>
         ensures value { result ≡ self.events }
@@ -186,12 +205,13 @@ impl World {
     pub fn turn(&mut self, worker: u32, t: u32) -> Result<(), AllocError>
         requires { IsTrue (may_turn self.old t) }
         ensures ok { OnOk result (self.new ≡ with_event self.old worker (e.Step t)) }
+        ensures made { OnOk result (IsMade self.old self.new worker (e.Step t)) }
         ensures core { OnOk result (core self.new ≡ stepped (core self.old) t (step (core self.old).program t (core self.old).state)) }
         ensures more { OnOk result ((core self.new).steps ≡ (core self.old).steps + 1) }
         ensures within { OnOk result ((core self.old).steps < self.old.settings.limit) }
         ensures err { OnErr result (self.new ≡ self.old) }
     {
-        self.events.reserve(1)?;
+        self.events.reserve(owed(&self.here) + 1)?;
         let alloc = *self.events.allocator();
         let program = present(&self.settings, self.here.phase);
         step_now(alloc, program, &self.places, &mut self.here, t)?;

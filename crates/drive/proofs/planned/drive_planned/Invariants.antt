@@ -1,5 +1,4 @@
-use Rattle.std.proofs.Common.{◌-◌}
-use Rattle.world_core.specs.History.{core}
+use Rattle.drive.specs.Measure.{measure}
 use Rattle.drive.specs.OnWay.{OnWay}
 use Rattle.drive.proofs.planned.drive_planned.Given as goal
 
@@ -7,4 +6,4 @@ abbrev pub invariant-run : goal.invariant-run
 invariant-run l = OnWay l.initial.world.settings l.fn.start l.world l.picker
 
 abbrev pub decreases-run : goal.decreases-run
-decreases-run l = l.world.settings.limit - (core l.world).steps
+decreases-run l = measure l.world

@@ -1,0 +1,11 @@
+use Rattle.std.proofs.Common.{not, ap, rules, tests}
+use Rattle.std.specs.Prelude.{◌==◌}
+use Rattle.c_tree.specs.Run.{Core}
+use Rattle.world_core.specs.CoreAt.{core_at}
+use Rattle.world_core.proofs.RetainLemmas.{retained}
+use Rattle.world_core.proofs.parking.unpark.Goals as goal
+
+pub returns : goal.returns
+returns c p =
+    ap (λ us. let d : Core = record (core_at p c.args.now.now) { parked = us } in d)
+    (retained _ (λ u. not (u == c.args.t)) _ (λ x b g k. (search (rules, tests), search rules)) _ _ c.retain.ensures.filtered)
