@@ -1,7 +1,8 @@
-//! The text of a patch's entries, one a line.
+//! The text of a patch's entries, one a line, and the names of what they number.
 //!
 //! The layers above rest on one contract: `mapping_text` gives the text by which patches are
-//! defined. An entry may hold numbers of things that are not there.
+//! defined. An entry may hold numbers of things that are not there. The names of things and the
+//! texts of points serve other texts too.
 #![tactic(auto)]
 
 mod entry;
@@ -12,4 +13,6 @@ mod programs;
 mod tally;
 mod text;
 
+pub use names::{function_name, name_at, slot_name};
+pub use points::Points;
 pub use text::mapping_text;

@@ -17,6 +17,7 @@ pub fn name_at<'a>(program: &'a Tables<'_>, kind: u8, i: u32) -> &'a [u8]
     }
 }
 
+/// The name of a slot of a function, or of a field of a struct.
 pub fn slot_name(slots: &[Slot], slot: u32) -> &[u8]
     ensures { result.now ≡ spec.slot_name slots.now slot }
 {
@@ -26,6 +27,7 @@ pub fn slot_name(slots: &[Slot], slot: u32) -> &[u8]
     }
 }
 
+/// The name of a function; none where it is not there.
 pub fn function_name(program: &Lifted, function: u32) -> &[u8]
     ensures { result.now ≡ (function_of program.now function).name }
 {

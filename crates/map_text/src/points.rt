@@ -40,6 +40,7 @@ impl<'a> Model for Points<'a> {
 }
 
 impl<'a> Points<'a> {
+    /// The points of a program.
     pub fn of(alloc: Global, program: &'a Lifted) -> Result<Points<'a>, AllocError>
         requires { KeepsLimit program.now }
         ensures { IfOk result (λ p. p ≡ program.now) }

@@ -2,7 +2,7 @@
 //!
 //! The layer above rests on two contracts: `write_patch` gives the bytes of a patch's file, and
 //! `read_patch` gives the one whole patch whose file the bytes are, or the first cause why they are
-//! that of none.
+//! that of none. `first_difference` tells where two texts differ.
 #![tactic(auto)]
 
 mod difference;
@@ -11,6 +11,7 @@ mod reading;
 mod refused;
 mod writing;
 
+pub use difference::first_difference;
 pub use laws::bytes_have_one_answer;
 pub use reading::read_patch;
 pub use refused::FileRefused;

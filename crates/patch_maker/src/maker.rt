@@ -3,6 +3,7 @@
 ghost use Rattle.std.specs.Prelude.{◌≡◌, MatchResult, map};
 ghost use Rattle.c_places.specs.Limit.{KeepsLimit};
 ghost use Rattle.c_tree.specs.MapForm.{HasMapForm};
+ghost use Rattle.c_tree.specs.Sound.{Sound};
 ghost use Rattle.patch_maker.specs.Judged.{AreJudged, AreLifted, AreUnlifted, Stops};
 ghost use Rattle.patch_maker.specs.Made.{AreCanonical, AreRefused, IsPatch, IsRefusal};
 
@@ -48,6 +49,17 @@ impl SoundPatch {
         ensures new_limit { KeepsLimit self.now.new }
     {
         &self.patch
+    }
+
+    /// Gives the patch, with no copy.
+    pub fn into_patch(self) -> Patch
+        ensures same { result ≡ self }
+        ensures sound { Sound result.old result.new result.entries }
+        ensures old_limit { KeepsLimit result.old }
+        ensures new_limit { KeepsLimit result.new }
+    {
+        let SoundPatch { patch } = self;
+        patch
     }
 }
 

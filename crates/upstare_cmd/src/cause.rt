@@ -1,9 +1,11 @@
 //! The words for which a source, a mapping or a patch is refused.
 
 ghost use Rattle.std.specs.Prelude.{◌≡◌, ◌++◌, OnOk};
+ghost use Rattle.c_tree.specs.declared.cause.FileCause.TheVariants as file;
 ghost use Rattle.upstare_cmd.specs.Line as spec;
 
-use c_tree::{CheckCause, EntryCause, LimitKind, ReadCause, SourceCause, Text};
+use c_tree::{CheckCause, EntryCause, FileCause, LimitKind, ReadCause, SourceCause, Text};
+use itoa::Buffer;
 use std::alloc::AllocError;
 
 /// Appends the words of a fault of a text to a line.
@@ -86,5 +88,44 @@ pub fn entry_cause(cause: EntryCause) -> &'static str
         EntryCause::UnknownGlobal => "unknown global",
         EntryCause::BadExpr => "bad expression",
         EntryCause::Twice => "twice",
+    }
+}
+
+/// Appends the words of an unsound entry to a line.
+fn unsound_entry(line: &mut Text, number: u32, cause: EntryCause) -> Result<(), AllocError>
+    ensures { OnOk result (line.new ≡ line.old ++ spec.file_cause (file.Entry number cause)) }
+{
+    let mut buffer = Buffer::new();
+    line.append(b"entry ")?;
+    line.append(buffer.format(number).as_bytes())?;
+    line.append(b": ")?;
+    line.append(entry_cause(cause).as_bytes())
+}
+
+/// Appends the words for which a source of a patch is refused to a line.
+fn of_source(line: &mut Text, which: &[u8], cause: &SourceCause) -> Result<(), AllocError>
+    ensures { OnOk result (line.new ≡ line.old ++ (which.now ++ spec.source_cause cause.now)) }
+{
+    line.append(which)?;
+    source_cause(line, cause)?;
+    Ok(())
+}
+
+/// Appends the words for which the bytes of a file are no patch to a line.
+pub fn file_cause(line: &mut Text, cause: &FileCause) -> Result<(), AllocError>
+    ensures { OnOk result (line.new ≡ line.old ++ spec.file_cause cause.now) }
+{
+    match cause {
+        FileCause::TooLong => line.append(b"too long"),
+        FileCause::Short => line.append(b"short"),
+        FileCause::BadHead => line.append(b"bad head"),
+        FileCause::OldSource(cause) => of_source(line, b"old source: ", cause),
+        FileCause::NewSource(cause) => of_source(line, b"new source: ", cause),
+        FileCause::Map(cause) => {
+            line.append(b"map: ")?;
+            read_cause(line, cause)
+        }
+        FileCause::Entry(number, cause) => unsound_entry(line, *number, *cause),
+        FileCause::NotCanonical => line.append(b"not canonical"),
     }
 }

@@ -2,13 +2,19 @@
 
 ghost use Rattle.upstare_cmd.specs.Laws as laws;
 
-use sources::accepted_programs_are_formed;
-use valid_states::runs_stay_valid;
+use map_lang::mappings_have_their_form;
+use patch_laws::lifted_entries_are_sound;
+use sources::{a_source_has_one_verdict, accepted_programs_are_formed};
+use valid_states::whole_runs_stay_valid;
 
-/// Each state that a run of an accepted source comes to is valid, where no update is armed.
+/// Each state that a run of an accepted source comes to is valid for the program that runs then, where
+/// the patch that is armed, if any, is whole and of this source.
 pub fn accepted_runs_stay_valid()
     ensures { laws.AcceptedRunsStayValid }
 {
     accepted_programs_are_formed();
-    runs_stay_valid();
+    a_source_has_one_verdict();
+    mappings_have_their_form();
+    lifted_entries_are_sound();
+    whole_runs_stay_valid();
 }

@@ -3,8 +3,8 @@
 ghost use Rattle.std.specs.Prelude.{◌≡◌, IfOk, string_bytes};
 ghost use Rattle.upstare_cmd.specs.Line as spec;
 
-use crate::cause::{entry_cause, read_cause, source_cause};
-use c_tree::{End, EntryCause, ReadCause, SourceCause, Text, Trap};
+use crate::cause::{entry_cause, file_cause, read_cause, source_cause};
+use c_tree::{End, EntryCause, FileCause, ReadCause, SourceCause, Text, Trap};
 use std::alloc::{AllocError, Global};
 
 /// The line of want of memory, which is told without taking any.
@@ -89,6 +89,44 @@ pub fn patch_too_long(alloc: Global, name: &str) -> Result<Text, AllocError>
     Ok(bytes_of(format!(in alloc; "patch {name} at 4194304: too long\n")?))
 }
 
+/// Where a patch is refused, `at` bytes from its start.
+fn patch_place(alloc: Global, name: &str, at: u32) -> Result<String, AllocError>
+    ensures { IfOk result (λ line. string_bytes line ≡ spec.patch_place name.now at) }
+{
+    format!(in alloc; "patch {name} at {at}: ")
+}
+
+/// A patch that is refused, `at` bytes from its start.
+pub fn patch_refused(
+    alloc: Global,
+    name: &str,
+    at: u32,
+    why: &FileCause,
+) -> Result<Text, AllocError>
+    ensures { IfOk result (λ line. line ≡ spec.patch_refused name.now at why.now) }
+{
+    let mut line = bytes_of(patch_place(alloc, name, at)?);
+    file_cause(&mut line, why)?;
+    line.append(b"\n")?;
+    Ok(line)
+}
+
+/// A patch whose old source is another text: how many bytes the two have, and where they differ.
+pub fn patch_differs(
+    alloc: Global,
+    name: &str,
+    source: usize,
+    old: usize,
+    at: usize,
+) -> Result<Text, AllocError>
+    ensures { IfOk result (λ line. line ≡ spec.patch_differs name.now source old at) }
+{
+    let line = format!(in alloc;
+        "patch {name}: old source {source} bytes, patch {old}, differ at {at}\n"
+    )?;
+    Ok(bytes_of(line))
+}
+
 /// How many bytes a patch has.
 pub fn written(alloc: Global, bytes: usize) -> Result<Text, AllocError>
     ensures { IfOk result (λ line. line ≡ spec.written bytes) }
@@ -147,40 +185,46 @@ fn cause(trap: Trap) -> &'static str
     }
 }
 
-fn exit(alloc: Global, code: u8, steps: u64) -> Result<String, AllocError>
-    ensures { IfOk result (λ line. string_bytes line ≡ spec.report (End.Finished code) steps) }
+fn exit(alloc: Global, code: u8) -> Result<String, AllocError>
+    ensures { IfOk result (λ line. string_bytes line ≡ spec.end_words (End.Finished code)) }
 {
-    format!(in alloc; "end exit {code} steps {steps} target - update none\n")
+    format!(in alloc; "end exit {code}")
 }
 
-fn trap(alloc: Global, thread: u32, trap: Trap, steps: u64) -> Result<String, AllocError>
-    ensures { IfOk result (λ line. string_bytes line ≡ spec.report (End.Trapped thread trap) steps) }
+fn trap(alloc: Global, thread: u32, trap: Trap) -> Result<String, AllocError>
+    ensures { IfOk result (λ line. string_bytes line ≡ spec.end_words (End.Trapped thread trap)) }
 {
     let cause = cause(trap);
-    format!(in alloc; "end trap {cause} thread {thread} steps {steps} target - update none\n")
+    format!(in alloc; "end trap {cause} thread {thread}")
 }
 
-fn deadlock(alloc: Global, steps: u64) -> Result<String, AllocError>
-    ensures { IfOk result (λ line. string_bytes line ≡ spec.report End.Deadlock steps) }
+/// How a run ended.
+fn end_words(alloc: Global, end: End) -> Result<Text, AllocError>
+    ensures { IfOk result (λ line. line ≡ spec.end_words end) }
 {
-    format!(in alloc; "end deadlock steps {steps} target - update none\n")
-}
-
-fn limit(alloc: Global, steps: u64) -> Result<String, AllocError>
-    ensures { IfOk result (λ line. string_bytes line ≡ spec.report End.Limit steps) }
-{
-    format!(in alloc; "end limit steps {steps} target - update none\n")
-}
-
-/// The report of a run: its end, and its number of Steps.
-pub fn report(alloc: Global, end: End, steps: u64) -> Result<Text, AllocError>
-    ensures { IfOk result (λ line. line ≡ spec.report end steps) }
-{
-    let line = match end {
-        End::Finished(code) => exit(alloc, code, steps)?,
-        End::Trapped(thread, cause) => trap(alloc, thread, cause, steps)?,
-        End::Deadlock => deadlock(alloc, steps)?,
-        End::Limit => limit(alloc, steps)?,
+    let words = match end {
+        End::Finished(code) => exit(alloc, code)?,
+        End::Trapped(thread, cause) => trap(alloc, thread, cause)?,
+        End::Deadlock => String::from_str(alloc, "end deadlock")?,
+        End::Limit => String::from_str(alloc, "end limit")?,
     };
-    Ok(bytes_of(line))
+    Ok(bytes_of(words))
+}
+
+/// The number of Steps, and that no target code ran.
+fn counted(alloc: Global, steps: u64) -> Result<String, AllocError>
+    ensures { IfOk result (λ line. string_bytes line ≡ spec.counted steps) }
+{
+    format!(in alloc; " steps {steps} target - update ")
+}
+
+/// The report of a run: its end, its number of Steps, and what came of its update.
+pub fn report(alloc: Global, end: End, steps: u64, update: &[u8]) -> Result<Text, AllocError>
+    ensures { IfOk result (λ line. line ≡ spec.report end steps update.now) }
+{
+    let mut line = end_words(alloc, end)?;
+    line.append(counted(alloc, steps)?.as_bytes())?;
+    line.append(update)?;
+    line.append(b"\n")?;
+    Ok(line)
 }

@@ -7,7 +7,7 @@ ghost use Rattle.upstare_cmd.specs.Views as view;
 use crate::answer::{Answer, Piece};
 use crate::line;
 use crate::status::Status;
-use c_tree::{EntryCause, ReadCause, Row, SourceCause, Text};
+use c_tree::{EntryCause, FileCause, ReadCause, Row, SourceCause, Text};
 use std::alloc::{AllocError, Global};
 
 /// A line alone.
@@ -106,6 +106,40 @@ pub fn patch_too_long(alloc: Global, name: &str) -> Result<Answer, AllocError>
     Ok(says(
         alloc,
         line::patch_too_long(alloc, name)?,
+        Status::MapRefused,
+    ))
+}
+
+/// The bytes of a file are no patch, for a cause `at` bytes from their start.
+pub fn patch_refused(
+    alloc: Global,
+    name: &str,
+    at: u32,
+    why: &FileCause,
+) -> Result<Answer, AllocError>
+    ensures { IfOk result (λ a. view.answer a ≡ spec.patch_refused name.now at why.now) }
+{
+    Ok(says(
+        alloc,
+        line::patch_refused(alloc, name, at, why)?,
+        Status::MapRefused,
+    ))
+}
+
+/// A patch has another old source; the numbers are those of the two texts' bytes, and where they
+/// differ.
+pub fn patch_differs(
+    alloc: Global,
+    name: &str,
+    source: usize,
+    old: usize,
+    at: usize,
+) -> Result<Answer, AllocError>
+    ensures { IfOk result (λ a. view.answer a ≡ spec.patch_differs name.now source old at) }
+{
+    Ok(says(
+        alloc,
+        line::patch_differs(alloc, name, source, old, at)?,
         Status::MapRefused,
     ))
 }

@@ -4,8 +4,9 @@ ghost use Rattle.std.specs.Prelude.{IfOk};
 ghost use Rattle.upstare_cmd.specs.Views as view;
 
 use crate::answer::Answer;
-use crate::reply::{map_refused, map_unsound, refused};
+use crate::reply::{map_refused, map_unsound, patch_refused, refused};
 use map_lang::MapRefused;
+use patch_file::FileRefused;
 use patch_maker::PatchRefused;
 use sources::SourceRefused;
 use std::alloc::{AllocError, Global};
@@ -37,5 +38,15 @@ pub fn entry_turned_down(alloc: Global, name: &str, why: PatchRefused) -> Result
     match why {
         PatchRefused::Entry(entry, why) => map_unsound(alloc, name, entry, why),
         PatchRefused::Memory(e) => Err(e),
+    }
+}
+
+/// What is answered where bytes gave no patch.
+pub fn file_turned_down(alloc: Global, name: &str, why: FileRefused) -> Result<Answer, AllocError>
+    ensures { IfOk result (λ a. view.TurnsDownFile name.now why (view.answer a)) }
+{
+    match why {
+        FileRefused::At(at, why) => patch_refused(alloc, name, at, &why),
+        FileRefused::Memory(e) => Err(e),
     }
 }

@@ -1,21 +1,22 @@
 -- What the parts of the code's commands make together.
-use Rattle.std.proofs.Common.{◌≡◌, ◌∙◌, Bool, true, false, refl, ap, arith, List, [], ◌∷◌, map, Option, Some, None, codes}
+use Rattle.std.proofs.Common.{◌≡◌, ◌∙◌, Bool, true, false, refl, sym, ap, ap₂, arith, List, [], ◌∷◌, map, Option, Some, None, Result, Ok, Err, IfOk, codes}
 use Rattle.std.specs.Prelude.{IfSome, slice_get, unwrap_or}
 use Rattle.std.specs.Option.{option_map_or}
 use Rattle.std.specs.Str.{bytes_eq}
 use Rattle.std.proofs.lemmas.Slice.Eq.{bytes_eq-Decides}
 use Rattle.clap.specs.Words.{IsUnsignedIn, Row, Text, first_of}
-use Rattle.words.specs.Command.{Usage, Patch, PatchWords, RunWords, command_of, command_on, file_in, name_in, number_in, patch_of, patch_words, run_of, run_on, run_words}
+use Rattle.words.specs.Command.{Command, Usage, Patch, PatchWords, RunWords, command_of, command_on, file_in, is_half, name_in, number_in, patch_of, patch_words, run_in, run_of, run_on, run_words, update_of}
 use Rattle.words.specs.Options.{default_steps, found, max_seed, max_steps, patch_app, run_app}
 
 -- a run of the parts that were found is what the words of a run ask for
-pub run_given : (words : List Text) (rows : List Row) (run : RunWords) → Some rows ≡ found run_app words
-    → run.file ≡ file_in rows → run.input ≡ first_of (codes "input") rows → run.seed ≡ number_in (codes "seed") rows
+pub run_given : (words : List Text) (rows : List Row) (half : Bool) (run : RunWords) → Some rows ≡ found run_app words
+    → half ≡ is_half (first_of (codes "patch") rows) (number_in (codes "at") rows)
+    → run.file ≡ file_in rows → run.update ≡ update_of (first_of (codes "patch") rows) (number_in (codes "at") rows) → run.input ≡ first_of (codes "input") rows → run.seed ≡ number_in (codes "seed") rows
     → run.schedule ≡ first_of (codes "schedule") rows → run.steps ≡ unwrap_or (number_in (codes "steps") rows) default_steps
-    → run.history ≡ first_of (codes "history") rows → run_on run ≡ run_of words
-run_given words rows run is file input seed schedule steps history =
-    let same : run ≡ run_words rows = λ i. record { file = file i; input = input i; seed = seed i; schedule = schedule i; steps = steps i; history = history i } in
-    ap run_on same ∙ ap (λ o. option_map_or (λ rows. run_on (run_words rows)) o Usage) is
+    → run.history ≡ first_of (codes "history") rows → run_on half run ≡ run_of words
+run_given words rows half run is none file update input seed schedule steps history =
+    let same : run ≡ run_words rows = λ i. record { file = file i; update = update i; input = input i; seed = seed i; schedule = schedule i; steps = steps i; history = history i } in
+    ap₂ run_on none same ∙ ap (λ o. option_map_or run_in o Usage) is
 
 -- a patch of the parts that were found is what the words of a patch ask for
 pub patch_given : (words : List Text) (rows : List Row) (patch : PatchWords) → Some rows ≡ found patch_app words
@@ -24,6 +25,11 @@ pub patch_given : (words : List Text) (rows : List Row) (patch : PatchWords) →
 patch_given words rows patch is old new mapping output =
     let same : patch ≡ patch_words rows = λ i. record { old = old i; new = new i; map = mapping i; output = output i } in
     ap Patch same ∙ ap (λ o. option_map_or (λ rows. Patch (patch_words rows)) o Usage) is
+
+-- a number of steps before an update is a number
+pub at_is_read : (o : Option Text) → IfSome o (IsUnsignedIn 0 max_steps) → IfSome o (IsUnsignedIn 0 max_seed)
+at_is_read None h = tt
+at_is_read (Some t) h = (h.0, h.1, h.2, omega (arith, h.3))
 
 -- a number of steps is a number
 pub steps_are_read : (o : Option Text) → IfSome o (IsUnsignedIn 1 max_steps) → IfSome o (IsUnsignedIn 0 max_seed)
@@ -45,3 +51,21 @@ no_command text (x ∷ xs) first name e is check points run patch =
     let same : name ≡ text x = is ∙ ap (λ o. text (unwrap_or o first)) e in
     let here : Usage ≡ command_on name (map text (x ∷ xs)) = rw (differs name (codes "check") check, differs name (codes "points") points, differs name (codes "run") run, differs name (codes "patch") patch) refl in
     here ∙ ap (λ (n : Text). command_on n (map text (x ∷ xs))) same
+
+-- words that begin with `run` are those of a run
+pub run_named : {X : Type 0} (text : X → Text) (words : List X) (first : X) (name : Text) → Some first ≡ slice_get words 0 → name ≡ text first
+    → name ≡ codes "run" → run_of (map text words) ≡ command_of (map text words)
+run_named text [] first name e is here = cc
+run_named text (x ∷ xs) first name e is here =
+    let same : codes "run" ≡ text x = sym here ∙ (is ∙ ap (λ o. text (unwrap_or o first)) e) in
+    let run : run_of (map text (x ∷ xs)) ≡ command_on (codes "run") (map text (x ∷ xs)) = refl in
+    run ∙ ap (λ (n : Text). command_on n (map text (x ∷ xs))) same
+
+-- words that a run doesn't take are a usage fault
+pub not_taken : (words : List Text) → None ≡ found run_app words → Usage ≡ run_of words
+not_taken words e = ap (λ o. option_map_or run_in o Usage) e
+
+-- a command that is this one is the one that equals it
+pub retold : {A E : Type 0} (x : Result A E) (f : A → Command) (a b : Command) → a ≡ b → IfOk x (λ c. f c ≡ a) → IfOk x (λ c. f c ≡ b)
+retold (Ok c) f a b e h = h ∙ e
+retold (Err x) f a b e h = tt

@@ -4,7 +4,7 @@ use Rattle.clap.proofs.OnLiterals.{clap_on_literals}
 use Rattle.words.specs.Command.{Usage, Run, RunWords, command_of}
 
 abbrev plain : List ℕ → RunWords
-plain name = record { file = name; input = None; seed = None; schedule = None; steps = 1000000; history = None }
+plain name = record { file = name; update = None; input = None; seed = None; schedule = None; steps = 1000000; history = None }
 
 abbrev a_c : List ℕ
 a_c = codes "a.c"
@@ -45,6 +45,19 @@ seed_and_schedule = refl
 run_history : command_of (codes "run" ∷ a_c ∷ codes "--history=h" ∷ []) ≡ Run (record (plain a_c) { history = Some (codes "h") })
 unfolding clap_on_literals
 run_history = refl
+
+run_update : command_of (codes "run" ∷ a_c ∷ codes "--patch" ∷ codes "p" ∷ codes "--at" ∷ codes "5" ∷ [])
+    ≡ Run (record (plain a_c) { update = Some (record { patch = codes "p"; at = 5 }) })
+unfolding clap_on_literals
+run_update = refl
+
+half_an_update : command_of (codes "run" ∷ a_c ∷ codes "--at" ∷ codes "5" ∷ []) ≡ Usage
+unfolding clap_on_literals
+half_an_update = refl
+
+other_half : command_of (codes "run" ∷ a_c ∷ codes "--patch" ∷ codes "p" ∷ []) ≡ Usage
+unfolding clap_on_literals
+other_half = refl
 
 after_dashes : command_of (codes "run" ∷ codes "--" ∷ codes "-x" ∷ []) ≡ Run (plain (codes "-x"))
 unfolding clap_on_literals

@@ -1,15 +1,24 @@
 -- The command that the words of a call are.
-use Rattle.std.specs.Prelude.{ℕ, ◌&&◌, List, [], ◌∷◌, Option, is_some, unwrap_or, option_map, if◌then◌else◌, codes}
+use Rattle.std.specs.Prelude.{ℕ, Bool, ◌&&◌, ◌||◌, List, [], ◌∷◌, Option, Some, None, is_some, is_none, unwrap_or, option_map, if◌then◌else◌, codes}
 use Rattle.std.specs.Option.{option_map_or}
 use Rattle.std.specs.Str.{bytes_eq}
 use Rattle.std.specs.Str.Parse.{digits_value, without_leading_plus}
 use Rattle.clap.specs.Words.{Row, Text, first_of}
 use Rattle.words.specs.Options as options
 
+-- The update that a run is asked for.
+pub record UpdateWords : Type 0 where
+  -- the name of the file with the patch
+  pub patch : Text
+  -- after how many Steps it is asked for
+  pub at : ℕ
+
 -- What a run is asked to do.
 pub record RunWords : Type 0 where
   -- the name of the file with the program
   pub file : Text
+  -- the update that it is asked for
+  pub update : Option UpdateWords
   -- the name of the file that the program reads as its input
   pub input : Option Text
   -- what the choices of a drawn schedule are drawn from
@@ -54,9 +63,20 @@ number_of text = digits_value 10 (without_leading_plus text)
 abbrev pub number_in : Text → List Row → Option ℕ
 number_in name rows = option_map number_of (first_of name rows)
 
+-- the update of a patch and a number of Steps, where both are given
+abbrev pub update_of : Option Text → Option ℕ → Option UpdateWords
+update_of (Some patch) (Some at) = Some (record { patch = patch; at = at })
+update_of (Some patch) None = None
+update_of None at = None
+
+-- whether one of the two is given without the other
+abbrev pub is_half : Option Text → Option ℕ → Bool
+is_half patch at = if is_some patch then is_none at else is_some at
+
 abbrev pub run_words : List Row → RunWords
 run_words rows = record {
   file = file_in rows;
+  update = update_of (first_of (codes "patch") rows) (number_in (codes "at") rows);
   input = first_of (codes "input") rows;
   seed = number_in (codes "seed") rows;
   schedule = first_of (codes "schedule") rows;
@@ -64,9 +84,12 @@ run_words rows = record {
   history = first_of (codes "history") rows;
 }
 
--- a run follows a schedule or draws one from a seed, and not both
-abbrev pub run_on : RunWords → Command
-run_on words = if is_some words.seed && is_some words.schedule then Usage else Run words
+-- a run follows a schedule or draws one from a seed, and not both; half an update is none
+abbrev pub run_on : Bool → RunWords → Command
+run_on half words = if half || (is_some words.seed && is_some words.schedule) then Usage else Run words
+
+abbrev pub run_in : List Row → Command
+run_in rows = run_on (is_half (first_of (codes "patch") rows) (number_in (codes "at") rows)) (run_words rows)
 
 -- what each command asks for, by what was found in its words; words that it doesn't take are a
 -- usage fault
@@ -80,7 +103,7 @@ points_of words =
 
 abbrev pub run_of : List Text → Command
 run_of words =
-    option_map_or (λ rows. run_on (run_words rows)) (options.found options.run_app words) Usage
+    option_map_or run_in (options.found options.run_app words) Usage
 
 abbrev pub patch_words : List Row → PatchWords
 patch_words rows = record {

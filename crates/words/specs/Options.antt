@@ -21,9 +21,6 @@ abbrev pub number_option : Text → ℕ → ℕ → Rule
 number_option name least most =
     record (text_option name) { parser = Some (parser.Unsigned least most) }
 
-abbrev pub input : Rule
-input = text_option (codes "input")
-
 abbrev pub max_seed : ℕ
 max_seed = 18446744073709551615
 
@@ -32,6 +29,16 @@ max_steps = 10000000
 
 abbrev pub default_steps : ℕ
 default_steps = 1000000
+
+-- the patch of an update, and the Steps after which it is asked for
+abbrev pub patch : Rule
+patch = text_option (codes "patch")
+
+abbrev pub at : Rule
+at = number_option (codes "at") 0 max_steps
+
+abbrev pub input : Rule
+input = text_option (codes "input")
 
 abbrev pub seed : Rule
 seed = number_option (codes "seed") 0 max_seed
@@ -65,8 +72,8 @@ points_app = file_app (codes "points")
 
 abbrev pub run_app : App
 run_app =
-    with_rule (with_rule (with_rule (with_rule (with_rule
-    (file_app (codes "run")) input) seed) schedule) steps) history
+    with_rule (with_rule (with_rule (with_rule (with_rule (with_rule (with_rule
+    (file_app (codes "run")) patch) at) input) seed) schedule) steps) history
 
 abbrev pub old : Rule
 old = named_file (codes "old")

@@ -5,14 +5,19 @@ use Rattle.words.specs.Command as c
 use Rattle.words.specs.declared.command.Command.{Command}
 use Rattle.words.specs.declared.command.Command.TheVariants.{Usage, Check, Points, Run, Patch}
 use Rattle.words.specs.declared.command.RunWords.{RunWords}
+use Rattle.words.specs.declared.command.UpdateWords.{UpdateWords}
 use Rattle.words.specs.declared.command.PatchWords.{PatchWords}
 
 abbrev pub text : Option (Bor (List ℕ)) → Option (List ℕ)
 text = option_map (λ s. s.now)
 
+abbrev pub update : Option UpdateWords → Option c.UpdateWords
+update = option_map (λ u. record { patch = u.patch.now; at = u.at })
+
 abbrev pub run : RunWords → c.RunWords
 run r = record {
   file = r.file.now;
+  update = update r.update;
   input = text r.input;
   seed = r.seed;
   schedule = text r.schedule;

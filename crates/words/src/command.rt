@@ -12,11 +12,22 @@ use std::alloc::{AllocError, Global};
 /// The most steps of a run that was given no number of them.
 const DEFAULT_STEPS: u64 = 1_000_000;
 
+/// The update that a run is asked for.
+#[derive(Clone, Copy, Debug, PartialEq, Eq)]
+pub struct UpdateWords<'a> {
+    /// The name of the file with the patch.
+    pub patch: &'a str,
+    /// After how many steps it is asked for, from 0 to 10,000,000.
+    pub at: u64,
+}
+
 /// What a run is asked to do.
 #[derive(Clone, Copy, Debug, PartialEq, Eq)]
 pub struct RunWords<'a> {
     /// The name of the file with the program.
     pub file: &'a str,
+    /// The update that it is asked for.
+    pub update: Option<UpdateWords<'a>>,
     /// The name of the file that the program reads as its input.
     pub input: Option<&'a str>,
     /// What the choices of a drawn schedule are drawn from.
@@ -79,11 +90,32 @@ fn points_in<'a>(alloc: Global, words: &'a [String]) -> Result<Command<'a>, Allo
     Ok(command)
 }
 
-/// A run follows a schedule or draws one from a seed, and not both.
-fn run_on<'a>(run: RunWords<'a>) -> Command<'a>
-    ensures { view.command result ≡ spec.run_on (view.run run.entry) }
+/// The update of a patch and a number of steps, where both are given.
+fn update_of<'a>(patch: Option<&'a str>, at: Option<u64>) -> Option<UpdateWords<'a>>
+    ensures { view.update result ≡ spec.update_of (view.text patch.entry) at }
 {
-    if run.seed.is_some() && run.schedule.is_some() {
+    Some(UpdateWords {
+        patch: patch?,
+        at: at?,
+    })
+}
+
+/// Whether one of the two is given without the other.
+fn is_half(patch: Option<&str>, at: Option<u64>) -> bool
+    ensures { result ≡ spec.is_half (view.text patch.entry) at }
+{
+    if patch.is_some() {
+        at.is_none()
+    } else {
+        at.is_some()
+    }
+}
+
+/// A run follows a schedule or draws one from a seed, and not both; half an update is none.
+fn run_on<'a>(is_half: bool, run: RunWords<'a>) -> Command<'a>
+    ensures { view.command result ≡ spec.run_on is_half (view.run run.entry) }
+{
+    if is_half || (run.seed.is_some() && run.schedule.is_some()) {
         return Command::Usage;
     }
     Command::Run(run)
@@ -96,14 +128,18 @@ fn run_in<'a>(alloc: Global, words: &'a [String]) -> Result<Command<'a>, AllocEr
     let Some(matches) = found_in(run_command(alloc)?, words)? else {
         return Ok(Command::Usage);
     };
-    Ok(run_on(RunWords {
+    let patch = text_in(&matches, "patch");
+    let at = number_in(&matches, "at");
+    let run = RunWords {
         file: file_in(&matches),
+        update: update_of(patch, at),
         input: text_in(&matches, "input"),
         seed: number_in(&matches, "seed"),
         schedule: text_in(&matches, "schedule"),
         steps: number_in(&matches, "steps").unwrap_or(DEFAULT_STEPS),
         history: text_in(&matches, "history"),
-    }))
+    };
+    Ok(run_on(is_half(patch, at), run))
 }
 
 fn patch_in<'a>(alloc: Global, words: &'a [String]) -> Result<Command<'a>, AllocError>

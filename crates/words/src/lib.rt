@@ -1,8 +1,8 @@
 //! What the words of a call ask for.
 //!
 //! The layers above rest on one contract: `command_of` gives the one command that the words are,
-//! and a run that it gives is fair: its steps and its seed lie in their ranges, and it has not both
-//! a seed and a schedule.
+//! and a run that it gives is fair: its steps, its seed and the steps of its update lie in their
+//! ranges, and it has not both a seed and a schedule.
 //!
 //! The first word names a command, and `clap` reads the words after it. Nothing is printed here: a
 //! call for help is a usage fault as any other.
@@ -15,4 +15,4 @@ mod options;
 #[cfg(test)]
 mod tests;
 
-pub use command::{Command, PatchWords, RunWords, command_of};
+pub use command::{Command, PatchWords, RunWords, UpdateWords, command_of};

@@ -9,7 +9,7 @@ use clap::builder::ValueParser;
 use clap::{Arg, Command};
 use std::alloc::{AllocError, Global};
 
-/// The most steps that a run may be given.
+/// The most steps that a run may be given, and that may come before its update.
 const MAX_STEPS: u64 = 10_000_000;
 
 /// The name of the file that the command reads.
@@ -17,6 +17,22 @@ fn file<'a>(alloc: Global) -> Arg<'a>
     ensures { (rule_of result ≡ spec.file) × (result.global ≡ false) }
 {
     Arg::new(alloc, "file").required(true)
+}
+
+/// The name of the file with the patch of an update.
+fn patch<'a>(alloc: Global) -> Arg<'a>
+    ensures { (rule_of result ≡ spec.patch) × (result.global ≡ false) }
+{
+    Arg::new(alloc, "patch").long("patch")
+}
+
+/// After how many steps the update is asked for.
+fn at<'a>(alloc: Global) -> Arg<'a>
+    ensures { (rule_of result ≡ spec.at) × (result.global ≡ false) }
+{
+    Arg::new(alloc, "at")
+        .long("at")
+        .value_parser(ValueParser::unsigned(0, MAX_STEPS))
 }
 
 /// The name of the file that the program reads as its input.
@@ -117,11 +133,13 @@ pub(crate) fn points_command<'a>(alloc: Global) -> Result<Command<'a>, AllocErro
     file_command(alloc, "points")
 }
 
-/// `run FILE [--input F] [--seed N] [--schedule F] [--steps N] [--history F]`
+/// `run FILE [--patch P --at N] [--input F] [--seed N] [--schedule F] [--steps N] [--history F]`
 pub(crate) fn run_command<'a>(alloc: Global) -> Result<Command<'a>, AllocError>
     ensures { IfOk result (λ c. app_of c ≡ spec.run_app) }
 {
     file_command(alloc, "run")?
+        .arg(patch(alloc))?
+        .arg(at(alloc))?
         .arg(input(alloc))?
         .arg(seed(alloc))?
         .arg(schedule(alloc))?

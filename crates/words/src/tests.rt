@@ -1,11 +1,12 @@
 //! What words ask for, as one table.
 
-use crate::{Command, PatchWords, RunWords, command_of};
+use crate::{Command, PatchWords, RunWords, UpdateWords, command_of};
 use std::alloc::{AllocError, Global};
 
 fn run(file: &str) -> RunWords<'_> {
     RunWords {
         file,
+        update: None,
         input: None,
         seed: None,
         schedule: None,
@@ -60,6 +61,17 @@ fn the_words_are_the_command(rt: HostRuntime) {
         input: Some("i"),
         ..run("a.c")
     };
+    let updated = RunWords {
+        update: Some(UpdateWords { patch: "p", at: 5 }),
+        ..run("a.c")
+    };
+    let latest = RunWords {
+        update: Some(UpdateWords {
+            patch: "p",
+            at: 10_000_000,
+        }),
+        ..run("a.c")
+    };
     for (line, want) in [
         ("", Command::Usage),
         ("a.c", Command::Usage),
@@ -101,6 +113,15 @@ fn the_words_are_the_command(rt: HostRuntime) {
         ("run a.c --input", Command::Usage),
         ("run a.c --input i --input i", Command::Usage),
         ("check a.c --input i", Command::Usage),
+        ("run a.c --patch p --at 5", Command::Run(updated)),
+        ("run --at=5 a.c --patch=p", Command::Run(updated)),
+        ("run a.c --patch p --at 10000000", Command::Run(latest)),
+        ("run a.c --patch p --at 10000001", Command::Usage),
+        ("run a.c --patch p --at x", Command::Usage),
+        ("run a.c --patch p", Command::Usage),
+        ("run a.c --at 5", Command::Usage),
+        ("run a.c --at 5 --at 5 --patch p", Command::Usage),
+        ("patch a b m -o p --at 5", Command::Usage),
         (
             "patch a b m -o p",
             Command::Patch(patch("a", "b", "m", "p")),

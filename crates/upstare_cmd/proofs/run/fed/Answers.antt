@@ -8,4 +8,4 @@ use Rattle.upstare_cmd.proofs.run.fed.Goals as goal
 pub returns : goal.returns
 returns c =
     let run = words_view.run c.args.words.now in
-    of_begun _ _ _ _ (λ k. IfOk c.planned.result (λ a. spec.Plans k run run.schedule c.args.texts.now (view.answer a))) c.in_ok-world.ensures c.planned.ensures
+    of_begun _ _ (λ k. IfOk c.planned.result (λ a. spec.Plans k run run.schedule c.args.texts.now (view.answer a))) c.in_ok-world.ensures c.planned.ensures

@@ -4,4 +4,4 @@ use Rattle.upstare_cmd.proofs.Refusing.{turned_down}
 use Rattle.upstare_cmd.proofs.run.source_meant.Goals as goal
 
 pub returns-in-Err : goal.returns-in-Err
-returns-in-Err c = turned_down _ _ (λ a p. spec.RunMeans (words_view.run c.args.words.now) c.args.texts.now p a) _ _ c.in-Err.ensures.verdict c.turned_down.ensures
+returns-in-Err c = turned_down _ _ (λ a p. spec.RunMeans (words_view.run c.args.words.now) c.args.source.now c.args.texts.now p a) _ _ c.in-Err.ensures.verdict c.turned_down.ensures

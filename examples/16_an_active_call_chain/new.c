@@ -1,0 +1,1 @@
+int n; int c(int x) { int w; while (n < 3) { n = n + 1; printf("C %d\n", n); } return x + w; } int b(int x) { int r; int w; r = c(x + 1); return r + w; } int a(int x) { int w; int r; r = b(x + 1); return r + w; } int main(void) { printf("%d\n", a(1)); return 0; }

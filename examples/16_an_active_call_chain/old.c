@@ -1,0 +1,1 @@
+int n; int c(int x) { while (1) { n = n + 1; printf("c %d\n", n); } return x; } int b(int x) { int r; r = c(x + 1); return r + 10; } int a(int x) { int r; r = b(x + 1); return r + 100; } int main(void) { printf("%d\n", a(1)); return 0; }

@@ -1,0 +1,1 @@
+int n; pthread_mutex_t m; void *w(void *a) { pthread_mutex_lock(&m); printf("w\n"); pthread_mutex_unlock(&m); return NULL; } int main(void) { pthread_t t; pthread_mutex_lock(&m); pthread_create(&t, NULL, w, NULL); while (n < 3) { n = n + 1; } pthread_mutex_unlock(&m); pthread_join(t, NULL); printf("old %d\n", n); return 0; }

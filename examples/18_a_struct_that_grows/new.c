@@ -1,0 +1,1 @@
+struct item { int value; int weight; struct item *next; }; struct item *head; int n; int main(void) { struct item *p; p = malloc(sizeof(struct item)); p->value = 5; head = p; p = malloc(sizeof(struct item)); p->value = 7; p = malloc(sizeof(struct item)); p->value = 9; free(p); p = NULL; while (n < 1) { n = n + 1; } printf("%d\n", head->weight); return 0; }
