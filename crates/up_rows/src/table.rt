@@ -1,16 +1,10 @@
 //! Tables of rows as text: a row a line, ` | ` between its fields.
 
 use crate::call::{made, plain};
+pub use row_calls::fields;
 use std::alloc::Global;
 use std::process::Abort;
 use std::test::Fail;
-
-/// The name, the source and the answer of a row; the source may have a ` | ` of its own.
-pub fn fields(row: &str) -> Option<(&str, &str, &str)> {
-    let (name, rest) = row.split_once(" | ")?;
-    let (source, answer) = rest.rsplit_once(" | ")?;
-    Some((name, source, answer))
-}
 
 fn verdict_is(
     rt: &impl Abort,
