@@ -1,0 +1,38 @@
+//! The names of what a program numbers; none of what is not there.
+
+ghost use Rattle.std.specs.Prelude.{◌≡◌};
+ghost use Rattle.c_tree.specs.Names as spec;
+
+use c_tree::Lifted;
+
+/// The name of a function.
+#[tactic(auto, using(crate::proofs::NameLemmas::name_rules))]
+pub fn function_name(program: &Lifted, i: u32) -> &[u8]
+    ensures { result.now ≡ spec.name_at program.now 0 i }
+{
+    match program.functions.as_slice().get(i as usize) {
+        Some(function) => function.name.as_bytes(),
+        None => &[],
+    }
+}
+
+/// The name of a struct.
+#[tactic(auto, using(crate::proofs::NameLemmas::name_rules))]
+pub fn struct_name(program: &Lifted, i: u32) -> &[u8]
+    ensures { result.now ≡ spec.name_at program.now 1 i }
+{
+    match program.structs.as_slice().get(i as usize) {
+        Some(owner) => owner.name.as_bytes(),
+        None => &[],
+    }
+}
+
+/// The name of a mutex.
+pub fn mutex_name(program: &Lifted, i: u32) -> &[u8]
+    ensures { result.now ≡ spec.name_at program.now 3 i }
+{
+    match program.mutexes.as_slice().get(i as usize) {
+        Some(name) => name.as_bytes(),
+        None => &[],
+    }
+}
