@@ -4,8 +4,9 @@
 //! that are ill typed, `lifting` what programs are lifted to and the limits, `running` programs and
 //! what they print, `memory` what they do with the heap and arrays, `input` what they read, `threads`
 //! what several threads come to under a schedule, `histories` the files of histories and schedules,
-//! `mappings` what comes of mappings, `patches` the command `patch` as a whole, `faults` what failing files
-//! and sinks make of a call, `usage` the words.
+//! `mappings` what comes of mappings, `patches` the command `patch` as a whole, `transforming` the text of
+//! transformed programs, `loading` updates made from a number, `faults` what failing files and sinks make
+//! of a call, `usage` the words.
 #![tactic(auto)]
 
 #[cfg(test)]
@@ -18,6 +19,8 @@ mod histories;
 mod input;
 #[cfg(test)]
 mod lifting;
+#[cfg(test)]
+mod loading;
 #[cfg(test)]
 mod mappings;
 #[cfg(test)]
@@ -34,6 +37,8 @@ mod running;
 mod table;
 #[cfg(test)]
 mod threads;
+#[cfg(test)]
+mod transforming;
 #[cfg(test)]
 mod typing;
 #[cfg(test)]

@@ -32,6 +32,14 @@ fn faulty_words_are_usage(rt: HostRuntime) -> Result<(), Fail> {
         "patch a.c b.c m -o",
         "patch a.c b.c m -o p -o q",
         "patch a.c b.c m x -o p",
+        "transform",
+        "transform a.c b.c",
+        "load",
+        "load 0",
+        "load 1001",
+        "load -1",
+        "load ten",
+        "load 1 2",
         "--version",
     ] {
         answers(&rt, rt.alloc(), &[], &plain(words), &usage)?;

@@ -1,43 +1,49 @@
--- What is meant by the texts of a patch, part by part.
-use Rattle.std.proofs.Common.{◌≡◌, ◌∙◌, ℕ, List, [], ◌∷◌, length, get_or, map, sym, ap, subst, arith}
+-- What is meant by the texts of a patch.
+use Rattle.std.proofs.Common.{◌≡◌, ◌∙◌, ℕ, List, [], ◌∷◌, length, get_or, sym, ap, subst, arith}
 use Rattle.std.specs.Prelude.{Result, Ok, Err, IfOk}
 use Rattle.std.specs.declared.alloc.AllocError.{AllocError}
 use Rattle.c_tree.specs.declared.lifted.Lifted.{Lifted}
 use Rattle.c_tree.specs.declared.mapping.Mapping.{Mapping}
-use Rattle.c_tree.specs.declared.mapping.Patch.{Patch}
-use Rattle.c_tree.specs.Canonical.{canonical_entries, canonical_text}
+use Rattle.c_tree.specs.declared.mapping.Patch as made
+use Rattle.c_tree.specs.Canonical.{canonical_text}
 use Rattle.patch_file.specs.Whole.{file_of}
 use Rattle.patch_frame.specs.Framing.{framed}
-use Rattle.patch_maker.specs.Made as maker
+use Rattle.patch_maker.specs.Made.{IsPatch}
 use Rattle.upstare_cmd.specs.Answer.{Answer}
-use Rattle.upstare_cmd.specs.Command.{Means, PatchMeans, patch_of, put_patch}
+use Rattle.upstare_cmd.specs.Command.{Means, OfTexts, PatchMeans, entries_of, names_of, patch_of, put_patch}
 use Rattle.upstare_cmd.specs.declared.answer.Answer as code
+use Rattle.upstare_cmd.specs.declared.judged.Judged.TheVariants as judged
 use Rattle.upstare_cmd.specs.Views as view
+use Rattle.upstare_cmd.proofs.Judging.{of_patch, of_refused}
 use Rattle.words.specs.Command.{Patch as ToPatch, PatchWords}
 
--- what a mapping between two programs comes to
-abbrev pub outcome : PatchWords → List ℕ → List ℕ → Lifted → Lifted → Mapping → Answer
-outcome words a b p q m = patch_of words (λ entries. framed a b (canonical_text p q entries)) (canonical_entries p q (map (λ x. x.it) m.entries))
-
 -- the bytes of a patch of two texts, by their programs and the entries of a mapping
-file_is : (a b : List ℕ) (p q : Lifted) (m : Mapping) (x : Patch) → maker.IsPatch a p b q m x → file_of x ≡ framed a b (canonical_text p q x.entries)
+file_is : (a b : List ℕ) (p q : Lifted) (m : Mapping) (x : made.Patch) → IsPatch a p b q m x → file_of x ≡ framed a b (canonical_text p q x.entries)
 file_is a b p q m x is =
     ap (λ t. framed t x.new_text (canonical_text x.old x.new x.entries)) is.old_text
     ∙ ap (λ t. framed a t (canonical_text x.old x.new x.entries)) is.new_text
     ∙ ap (λ o. framed a b (canonical_text o x.new x.entries)) is.old
     ∙ ap (λ n. framed a b (canonical_text p n x.entries)) is.new
 
-put : (words : PatchWords) (a b : List ℕ) (p q : Lifted) (m : Mapping) (x : Patch) (bytes : List ℕ) → maker.IsPatch a p b q m x → bytes ≡ file_of x
-    → put_patch words.output bytes ≡ outcome words a b p q m
-put words a b p q m x bytes is written =
-    ap (put_patch words.output) (written ∙ file_is a b p q m x is)
+-- the file of a patch is what is answered of its mapping
+put : (words : PatchWords) (a b : List ℕ) (x : made.Patch) (p q : Lifted) (m : Mapping) → IsPatch a p b q m x
+    → put_patch words.output (file_of x) ≡ patch_of words (λ entries. framed a b (canonical_text p q entries)) (entries_of p q m)
+put words a b x p q m is =
+    ap (put_patch words.output) (file_is a b p q m x is)
     ∙ ap (patch_of words (λ entries. framed a b (canonical_text p q entries))) (sym is.entries.are)
 
--- The file of the patch is what is meant of its mapping.
-pub patch_put : (words : PatchWords) (a b : List ℕ) (p q : Lifted) (m : Mapping) (x : Patch) (bytes : List ℕ) (r : Result code.Answer AllocError) → maker.IsPatch a p b q m x
-    → bytes ≡ file_of x → IfOk r (λ y. view.answer y ≡ put_patch words.output bytes) → IfOk r (λ y. view.answer y ≡ outcome words a b p q m)
-patch_put words a b p q m x bytes (Ok y) is written done = done ∙ put words a b p q m x bytes is written
-patch_put words a b p q m x bytes (Err e) is written done = done
+-- What a patch means, where the three texts have one.
+pub patch_put : (words : PatchWords) (a b text : List ℕ) (x : made.Patch) (r : Result code.Answer AllocError) → view.IsOfTexts (names_of words) a b text (judged.Patch x)
+    → IfOk r (λ y. view.answer y ≡ put_patch words.output (file_of x)) → IfOk r (λ y. PatchMeans words a b text (view.answer y))
+patch_put words a b text x (Ok y) of done =
+    of_patch (names_of words) a b text x (λ p q r. view.answer y ≡ patch_of words (λ entries. framed a b (canonical_text p q entries)) r) (view.answer y) of
+    (λ p q m is. done ∙ put words a b x p q m is)
+patch_put words a b text x (Err e) of done = tt
+
+-- What a patch means, where one of the three texts is refused.
+pub patch_refused : (words : PatchWords) (a b text : List ℕ) (y : Answer) → OfTexts (names_of words) a b text (λ p q r. view.TurnsDownEntries words.map r y) y → PatchMeans words a b text y
+patch_refused words a b text y down =
+    of_refused (names_of words) a b text (λ p q r. y ≡ patch_of words (λ entries. framed a b (canonical_text p q entries)) r) y (λ p q why is. is) down
 
 -- What three texts mean is what the command means.
 three : (xs : List (List ℕ)) (x y z d e f : List ℕ) → length xs ≡ 3 → x ≡ get_or xs 0 d → y ≡ get_or xs 1 e → z ≡ get_or xs 2 f → xs ≡ x ∷ y ∷ z ∷ []

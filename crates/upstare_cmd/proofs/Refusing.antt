@@ -18,7 +18,7 @@ use Rattle.upstare_cmd.specs.declared.answer.Answer as code
 use Rattle.upstare_cmd.specs.Views as view
 
 -- The line of a refusal is what is meant where a source is judged.
-judged : (name bytes : List ℕ) (Taken : Answer → Lifted → Type 0) (why : SourceRefused) (a : Answer) → source.IsRefusal bytes why → view.TurnsDown name why a → OfSource name bytes (Taken a) a
+pub judged : (name bytes : List ℕ) (Taken : Answer → Lifted → Type 0) (why : SourceRefused) (a : Answer) → source.IsRefusal bytes why → view.TurnsDown name why a → OfSource name bytes (Taken a) a
 judged name bytes Taken (refused.At at why) a is down = inr (at, why, is, down)
 judged name bytes Taken (refused.Memory e) a is down = absurd down
 
@@ -28,7 +28,7 @@ turned_down name bytes Taken why (Ok a) is down = judged name bytes Taken why (v
 turned_down name bytes Taken why (Err e) is down = down
 
 -- The line of a refusal is what is meant where a text is judged as a mapping.
-map_judged : (name bytes : List ℕ) (Taken : Answer → Mapping → Type 0) (why : MapRefused) (a : Answer) → mapping.IsRefusal bytes why → view.TurnsDownMap name why a → OfMapping name bytes (Taken a) a
+pub map_judged : (name bytes : List ℕ) (Taken : Answer → Mapping → Type 0) (why : MapRefused) (a : Answer) → mapping.IsRefusal bytes why → view.TurnsDownMap name why a → OfMapping name bytes (Taken a) a
 map_judged name bytes Taken (map_refused.At at why) a is down = inr (at, why, is, down)
 map_judged name bytes Taken (map_refused.Memory e) a is down = absurd down
 

@@ -1,7 +1,6 @@
 -- Whole patches are sound, and what that says of a run.
 use Rattle.std.proofs.Common.{◌≡◌, ℕ, List, map, Option, Some, None, IfSome, Result, Ok, Err, refl, subst}
 use Rattle.c_tree.specs.declared.lifted.Lifted.{Lifted}
-use Rattle.c_tree.specs.declared.mapping.Entry.{Entry}
 use Rattle.c_tree.specs.declared.mapping.LEntry.{LEntry}
 use Rattle.c_tree.specs.declared.mapping.Mapping.{Mapping}
 use Rattle.c_tree.specs.declared.mapping.Patch.{Patch}
@@ -9,7 +8,6 @@ use Rattle.c_tree.specs.declared.run.Armed.{Armed}
 use Rattle.c_tree.specs.declared.run.Settings.{Settings}
 use Rattle.c_tree.specs.Canonical.{canonical}
 use Rattle.c_tree.specs.Entries.{Unsound, lifted_entries}
-use Rattle.c_tree.specs.Formed.{IsFormed}
 use Rattle.c_tree.specs.MapForm.{HasMapForm}
 use Rattle.c_tree.specs.Refusal.{onward}
 use Rattle.c_tree.specs.Sound.{Sound}

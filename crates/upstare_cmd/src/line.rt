@@ -228,3 +228,13 @@ pub fn report(alloc: Global, end: End, steps: u64, update: &[u8]) -> Result<Text
     line.append(b"\n")?;
     Ok(line)
 }
+
+/// What is printed of a load before its output: its number, its Steps and what came of its update.
+pub fn loaded(alloc: Global, n: u32, steps: u64, update: &[u8]) -> Result<Text, AllocError>
+    ensures { IfOk result (λ line. line ≡ spec.loaded n steps update.now) }
+{
+    let mut line = bytes_of(format!(in alloc; "load {n} steps {steps} update ")?);
+    line.append(update)?;
+    line.append(b"\n")?;
+    Ok(line)
+}

@@ -75,7 +75,7 @@ fn refusal_words(alloc: Global, world: &World, reason: Reason) -> Result<Text, A
 }
 
 /// What came of the update of a run, in words.
-fn update_words(alloc: Global, world: &World) -> Result<Text, AllocError>
+pub fn update_words(alloc: Global, world: &World) -> Result<Text, AllocError>
     ensures { IfOk result (λ words. words ≡ updates.update_words world.now) }
 {
     match world.outcome() {

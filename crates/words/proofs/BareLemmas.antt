@@ -9,7 +9,7 @@ use Rattle.clap.specs.declared.error.kind.ErrorKind.TheVariants.{OutOfMemory}
 use Rattle.clap.proofs.FaultLemmas.{leaf_fault}
 use Rattle.clap.proofs.TakesLemmas.{leaf_takes}
 use Rattle.words.specs.Bare.{IsBare}
-use Rattle.words.specs.Options.{check_app, patch_app, points_app, run_app, found}
+use Rattle.words.specs.Options.{check_app, load_app, patch_app, points_app, run_app, transform_app, found}
 use Rattle.words.proofs.FaultFree.{level}
 
 pub check_is_bare : IsBare check_app
@@ -18,11 +18,17 @@ check_is_bare = record { simple = refl; free = refl; subs = refl; defaults = ref
 pub points_is_bare : IsBare points_app
 points_is_bare = record { simple = refl; free = refl; subs = refl; defaults = refl; rules = refl; helps = refl; enters = refl }
 
+pub transform_is_bare : IsBare transform_app
+transform_is_bare = record { simple = refl; free = refl; subs = refl; defaults = refl; rules = refl; helps = refl; enters = refl }
+
 pub run_is_bare : IsBare run_app
 run_is_bare = record { simple = refl; free = refl; subs = refl; defaults = refl; rules = refl; helps = refl; enters = refl }
 
 pub patch_is_bare : IsBare patch_app
 patch_is_bare = record { simple = refl; free = refl; subs = refl; defaults = refl; rules = refl; helps = refl; enters = refl }
+
+pub load_is_bare : IsBare load_app
+load_is_bare = record { simple = refl; free = refl; subs = refl; defaults = refl; rules = refl; helps = refl; enters = refl }
 
 -- a bare command takes the words at which it has no fault
 pub takes_without_fault : (a : App) (words : List Text) → IsBare a → fault_of a words ≡ [] → takes a words ≡ true

@@ -5,8 +5,8 @@ use Rattle.std.specs.Option.{option_map_or}
 use Rattle.std.specs.Str.{bytes_eq}
 use Rattle.std.proofs.lemmas.Slice.Eq.{bytes_eq-Decides}
 use Rattle.clap.specs.Words.{IsUnsignedIn, Row, Text, first_of}
-use Rattle.words.specs.Command.{Command, Usage, Patch, PatchWords, RunWords, command_of, command_on, file_in, is_half, name_in, number_in, patch_of, patch_words, run_in, run_of, run_on, run_words, update_of}
-use Rattle.words.specs.Options.{default_steps, found, max_seed, max_steps, patch_app, run_app}
+use Rattle.words.specs.Command.{Command, Usage, Patch, PatchWords, RunWords, command_of, command_on, file_in, is_half, load_in, load_of, load_on, name_in, number_in, patch_of, patch_words, run_in, run_of, run_on, run_words, update_of}
+use Rattle.words.specs.Options.{default_steps, found, load_app, max_seed, max_steps, patch_app, run_app}
 
 -- a run of the parts that were found is what the words of a run ask for
 pub run_given : (words : List Text) (rows : List Row) (half : Bool) (run : RunWords) → Some rows ≡ found run_app words
@@ -45,11 +45,19 @@ differs a b other = go (bytes_eq a b) refl
 
 -- words that begin with no command's name are a usage fault
 pub no_command : {X : Type 0} (text : X → Text) (words : List X) (first : X) (name : Text) → Some first ≡ slice_get words 0 → name ≡ text first
-    → (name ≡ codes "check" → ⊥) → (name ≡ codes "points" → ⊥) → (name ≡ codes "run" → ⊥) → (name ≡ codes "patch" → ⊥) → Usage ≡ command_of (map text words)
-no_command text [] first name e is check points run patch = cc
-no_command text (x ∷ xs) first name e is check points run patch =
+    → (name ≡ codes "check" → ⊥) → (name ≡ codes "points" → ⊥) → (name ≡ codes "transform" → ⊥) → (name ≡ codes "run" → ⊥) → (name ≡ codes "patch" → ⊥) → (name ≡ codes "load" → ⊥)
+    → Usage ≡ command_of (map text words)
+no_command text [] first name e is check points transform run patch load = cc
+no_command text (x ∷ xs) first name e is check points transform run patch load =
     let same : name ≡ text x = is ∙ ap (λ o. text (unwrap_or o first)) e in
-    let here : Usage ≡ command_on name (map text (x ∷ xs)) = rw (differs name (codes "check") check, differs name (codes "points") points, differs name (codes "run") run, differs name (codes "patch") patch) refl in
+    let here : Usage ≡ command_on name (map text (x ∷ xs)) = rw (
+      differs name (codes "check") check,
+      differs name (codes "points") points,
+      differs name (codes "transform") transform,
+      differs name (codes "run") run,
+      differs name (codes "patch") patch,
+      differs name (codes "load") load,
+    ) refl in
     here ∙ ap (λ (n : Text). command_on n (map text (x ∷ xs))) same
 
 -- words that begin with `run` are those of a run
@@ -64,6 +72,15 @@ run_named text (x ∷ xs) first name e is here =
 -- words that a run doesn't take are a usage fault
 pub not_taken : (words : List Text) → None ≡ found run_app words → Usage ≡ run_of words
 not_taken words e = ap (λ o. option_map_or run_in o Usage) e
+
+-- a load of the number that was found is what the words of a load ask for
+pub load_given : (words : List Text) (rows : List Row) (command : Command) → Some rows ≡ found load_app words
+    → command ≡ load_on (number_in (codes "number") rows) → command ≡ load_of words
+load_given words rows command is e = e ∙ ap (λ o. option_map_or load_in o Usage) is
+
+-- words that a load doesn't take are a usage fault
+pub no_load : (words : List Text) → None ≡ found load_app words → Usage ≡ load_of words
+no_load words e = ap (λ o. option_map_or load_in o Usage) e
 
 -- a command that is this one is the one that equals it
 pub retold : {A E : Type 0} (x : Result A E) (f : A → Command) (a b : Command) → a ≡ b → IfOk x (λ c. f c ≡ a) → IfOk x (λ c. f c ≡ b)

@@ -1,7 +1,7 @@
 -- Words that are written out, and what they ask for.
 use Rattle.std.proofs.Common.{◌≡◌, refl, ℕ, List, [], ◌∷◌, Some, None, codes}
 use Rattle.clap.proofs.OnLiterals.{clap_on_literals}
-use Rattle.words.specs.Command.{Usage, Run, RunWords, command_of}
+use Rattle.words.specs.Command.{Usage, Load, Run, RunWords, Transform, command_of}
 
 abbrev plain : List ℕ → RunWords
 plain name = record { file = name; update = None; input = None; seed = None; schedule = None; steps = 1000000; history = None }
@@ -78,3 +78,31 @@ no_help = refl
 no_short_help : command_of (codes "points" ∷ codes "-h" ∷ []) ≡ Usage
 unfolding clap_on_literals
 no_short_help = refl
+
+transform_file : command_of (codes "transform" ∷ a_c ∷ []) ≡ Transform a_c
+unfolding clap_on_literals
+transform_file = refl
+
+load_least : command_of (codes "load" ∷ codes "1" ∷ []) ≡ Load 1
+unfolding clap_on_literals
+load_least = refl
+
+load_most : command_of (codes "load" ∷ codes "1000" ∷ []) ≡ Load 1000
+unfolding clap_on_literals
+load_most = refl
+
+load_of_none : command_of (codes "load" ∷ codes "0" ∷ []) ≡ Usage
+unfolding clap_on_literals
+load_of_none = refl
+
+load_too_large : command_of (codes "load" ∷ codes "1001" ∷ []) ≡ Usage
+unfolding clap_on_literals
+load_too_large = refl
+
+load_without_number : command_of (codes "load" ∷ []) ≡ Usage
+unfolding clap_on_literals
+load_without_number = refl
+
+load_of_a_word : command_of (codes "load" ∷ codes "x" ∷ []) ≡ Usage
+unfolding clap_on_literals
+load_of_a_word = refl

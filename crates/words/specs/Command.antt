@@ -39,13 +39,15 @@ pub record PatchWords : Type 0 where
   -- the name of the file that the patch goes to
   pub output : Text
 
--- What the words ask for. Each command but `Usage` has the names of its files.
+-- What the words ask for. Each command has the names of its files, and `Load` the size of its texts.
 pub data Command : Type 0 where
   Usage : Command
   Check : Text → Command
   Points : Text → Command
+  Transform : Text → Command
   Run : RunWords → Command
   Patch : PatchWords → Command
+  Load : ℕ → Command
 
 -- the name of a file that has to be named
 abbrev pub name_in : Text → List Row → Text
@@ -101,6 +103,10 @@ abbrev pub points_of : List Text → Command
 points_of words =
     option_map_or (λ rows. Points (file_in rows)) (options.found options.points_app words) Usage
 
+abbrev pub transform_of : List Text → Command
+transform_of words =
+    option_map_or (λ rows. Transform (file_in rows)) (options.found options.transform_app words) Usage
+
 abbrev pub run_of : List Text → Command
 run_of words =
     option_map_or run_in (options.found options.run_app words) Usage
@@ -117,12 +123,25 @@ abbrev pub patch_of : List Text → Command
 patch_of words =
     option_map_or (λ rows. Patch (patch_words rows)) (options.found options.patch_app words) Usage
 
+-- a load of this size; no number is none
+abbrev pub load_on : Option ℕ → Command
+load_on number = option_map_or Load number Usage
+
+abbrev pub load_in : List Row → Command
+load_in rows = load_on (number_in (codes "number") rows)
+
+abbrev pub load_of : List Text → Command
+load_of words =
+    option_map_or load_in (options.found options.load_app words) Usage
+
 abbrev pub command_on : Text → List Text → Command
 command_on name words =
     if bytes_eq name (codes "check") then check_of words
     else (if bytes_eq name (codes "points") then points_of words
+    else (if bytes_eq name (codes "transform") then transform_of words
     else (if bytes_eq name (codes "run") then run_of words
-    else (if bytes_eq name (codes "patch") then patch_of words else Usage)))
+    else (if bytes_eq name (codes "patch") then patch_of words
+    else (if bytes_eq name (codes "load") then load_of words else Usage)))))
 
 -- the command that the words are; the first of them is its name
 abbrev pub command_of : List Text → Command

@@ -1,6 +1,6 @@
 -- What holds of whatever the words ask for.
 use Rattle.std.specs.Prelude.{◌≡◌, ◌⊎◌, ◌≤◌, ◌<◌, ◌^◌, ℕ, IfSome, List, None}
-use Rattle.words.specs.Command.{Command, Run, RunWords, command_of}
+use Rattle.words.specs.Command.{Command, Load, Run, RunWords, command_of}
 
 -- a run makes from 1 to 10,000,000 steps at most, its seed is below 2 ^ 64, it has not both a seed
 -- and a schedule, and its update is asked for after 10,000,000 steps at most
@@ -11,11 +11,12 @@ pub record IsFair (run : RunWords) : Type 0 where
   pub one : (run.seed ≡ None) ⊎ (run.schedule ≡ None)
   pub at : IfSome run.update (λ update. update.at ≤ 10000000)
 
--- where a run is asked for, it is fair
+-- a run that is asked for is fair, and texts that are asked for are neither empty nor endless
 abbrev pub IsFairCommand : Command → Type 0
 IsFairCommand (Run run) = IsFair run
+IsFairCommand (Load n) = (1 ≤ n) × (n ≤ 1000)
 IsFairCommand _ = Unit {0}
 
--- what is asked for as a run is fair
-abbrev pub RunIsFair : Type 0
-RunIsFair = (words : List (List ℕ)) (run : RunWords) → command_of words ≡ Run run → IsFair run
+-- whatever the words are, what they ask for is fair
+abbrev pub CommandIsFair : Type 0
+CommandIsFair = (words : List (List ℕ)) → IsFairCommand (command_of words)

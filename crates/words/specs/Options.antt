@@ -4,13 +4,13 @@ use Rattle.clap.specs.Words.{App, Row, Rule, Text, new_app, new_rule, with_rule,
 use Rattle.clap.specs.Simple.{on_top}
 use Rattle.clap.specs.declared.builder.value_parser.ValueParser.TheVariants as parser
 
--- a file that has to be named
-abbrev pub named_file : Text → Rule
-named_file name = record (new_rule name) { required = true }
+-- an argument that has to be given, such as the name of a file
+abbrev pub needed : Text → Rule
+needed name = record (new_rule name) { required = true }
 
 -- the file that a command reads
 abbrev pub file : Rule
-file = named_file (codes "file")
+file = needed (codes "file")
 
 -- an option with a text, `--NAME TEXT`
 abbrev pub text_option : Text → Rule
@@ -26,6 +26,9 @@ max_seed = 18446744073709551615
 
 abbrev pub max_steps : ℕ
 max_steps = 10000000
+
+abbrev pub max_load : ℕ
+max_load = 1000
 
 abbrev pub default_steps : ℕ
 default_steps = 1000000
@@ -67,6 +70,9 @@ file_app name = with_rule (bare name) file
 abbrev pub check_app : App
 check_app = file_app (codes "check")
 
+abbrev pub transform_app : App
+transform_app = file_app (codes "transform")
+
 abbrev pub points_app : App
 points_app = file_app (codes "points")
 
@@ -76,13 +82,13 @@ run_app =
     (file_app (codes "run")) patch) at) input) seed) schedule) steps) history
 
 abbrev pub old : Rule
-old = named_file (codes "old")
+old = needed (codes "old")
 
 abbrev pub new : Rule
-new = named_file (codes "new")
+new = needed (codes "new")
 
 abbrev pub mapping : Rule
-mapping = named_file (codes "map")
+mapping = needed (codes "map")
 
 -- the file that a patch goes to, `-o OUT`
 abbrev pub output : Rule
@@ -90,6 +96,13 @@ output = record (new_rule (codes "output")) { short = Some 111; required = true 
 
 abbrev pub patch_app : App
 patch_app = with_rule (with_rule (with_rule (with_rule (bare (codes "patch")) old) new) mapping) output
+
+-- how large the texts of a load are, a number that has to be given
+abbrev pub number : Rule
+number = record (needed (codes "number")) { parser = Some (parser.Unsigned 1 max_load) }
+
+abbrev pub load_app : App
+load_app = with_rule (bare (codes "load")) number
 
 -- what was found for each argument, where the command takes the words
 abbrev pub found : App → List Text → Option (List Row)

@@ -3,7 +3,7 @@ use Rattle.std.specs.Prelude.{ℕ, List, Option, option_map}
 use Rattle.std.specs.Borrow.{Bor}
 use Rattle.words.specs.Command as c
 use Rattle.words.specs.declared.command.Command.{Command}
-use Rattle.words.specs.declared.command.Command.TheVariants.{Usage, Check, Points, Run, Patch}
+use Rattle.words.specs.declared.command.Command.TheVariants.{Usage, Check, Points, Transform, Run, Patch, Load}
 use Rattle.words.specs.declared.command.RunWords.{RunWords}
 use Rattle.words.specs.declared.command.UpdateWords.{UpdateWords}
 use Rattle.words.specs.declared.command.PatchWords.{PatchWords}
@@ -32,5 +32,7 @@ abbrev pub command : Command → c.Command
 command Usage = c.Usage
 command (Check name) = c.Check name.now
 command (Points name) = c.Points name.now
+command (Transform name) = c.Transform name.now
 command (Run r) = c.Run (run r)
 command (Patch p) = c.Patch (patch p)
+command (Load n) = c.Load n

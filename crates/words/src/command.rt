@@ -5,8 +5,10 @@ ghost use Rattle.words.specs.Command as spec;
 ghost use Rattle.words.specs.Laws as laws;
 ghost use Rattle.words.specs.Views as view;
 
-use crate::matches::{file_in, found_in, name_in, number_in, text_in};
-use crate::options::{check_command, patch_command, points_command, run_command};
+use crate::matches::{file_in, found_in, name_in, number_in, small_number_in, text_in};
+use crate::options::{
+    check_command, load_command, patch_command, points_command, run_command, transform_command,
+};
 use std::alloc::{AllocError, Global};
 
 /// The most steps of a run that was given no number of them.
@@ -53,7 +55,7 @@ pub struct PatchWords<'a> {
     pub output: &'a str,
 }
 
-/// What the words ask for. Each command but `Usage` has the names of its files.
+/// What the words ask for. Each command has the names of its files, and `Load` the size of its texts.
 #[derive(Clone, Copy, Debug, PartialEq, Eq)]
 pub enum Command<'a> {
     /// The words are no command.
@@ -62,10 +64,14 @@ pub enum Command<'a> {
     Check(&'a str),
     /// The places of the program that mappings can name.
     Points(&'a str),
+    /// The program as it is transformed for updates.
+    Transform(&'a str),
     /// A run of the program.
     Run(RunWords<'a>),
     /// A patch from one program to another.
     Patch(PatchWords<'a>),
+    /// Two programs and a mapping between them, made as large as this number from 1 to 1000 says.
+    Load(u32),
 }
 
 fn check_in<'a>(alloc: Global, words: &'a [String]) -> Result<Command<'a>, AllocError>
@@ -85,6 +91,17 @@ fn points_in<'a>(alloc: Global, words: &'a [String]) -> Result<Command<'a>, Allo
 {
     let command = match found_in(points_command(alloc)?, words)? {
         Some(matches) => Command::Points(file_in(&matches)),
+        None => Command::Usage,
+    };
+    Ok(command)
+}
+
+fn transform_in<'a>(alloc: Global, words: &'a [String]) -> Result<Command<'a>, AllocError>
+    ensures { IfOk result (λ c.
+        view.command c ≡ spec.transform_of (map string_bytes words.entry.now)) }
+{
+    let command = match found_in(transform_command(alloc)?, words)? {
+        Some(matches) => Command::Transform(file_in(&matches)),
         None => Command::Usage,
     };
     Ok(command)
@@ -157,6 +174,26 @@ fn patch_in<'a>(alloc: Global, words: &'a [String]) -> Result<Command<'a>, Alloc
     }))
 }
 
+/// A load of this size; no number is none.
+fn load_on<'a>(number: Option<u32>) -> Command<'a>
+    ensures { view.command result ≡ spec.load_on number }
+{
+    match number {
+        Some(number) => Command::Load(number),
+        None => Command::Usage,
+    }
+}
+
+fn load_in<'a>(alloc: Global, words: &'a [String]) -> Result<Command<'a>, AllocError>
+    ensures { IfOk result (λ c.
+        view.command c ≡ spec.load_of (map string_bytes words.entry.now)) }
+{
+    let Some(matches) = found_in(load_command(alloc)?, words)? else {
+        return Ok(Command::Usage);
+    };
+    Ok(load_on(small_number_in(&matches, "number")))
+}
+
 /// The command that the words are, of which the first is its name. An `Err` is want of memory.
 pub fn command_of<'a>(alloc: Global, words: &'a [String]) -> Result<Command<'a>, AllocError>
     ensures command { IfOk result (λ c.
@@ -169,8 +206,10 @@ pub fn command_of<'a>(alloc: Global, words: &'a [String]) -> Result<Command<'a>,
     match name.as_str() {
         "check" => check_in(alloc, words),
         "points" => points_in(alloc, words),
+        "transform" => transform_in(alloc, words),
         "run" => run_in(alloc, words),
         "patch" => patch_in(alloc, words),
+        "load" => load_in(alloc, words),
         _ => Ok(Command::Usage),
     }
 }

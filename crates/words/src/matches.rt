@@ -58,3 +58,12 @@ pub(crate) fn number_in(matches: &ArgMatches<'_>, name: &str) -> Option<u64>
 {
     text_in(matches, name)?.parse::<u64>().ok()
 }
+
+/// The number of an argument that is 1000 at most, where it was given. `clap` has tested its text.
+pub(crate) fn small_number_in(matches: &ArgMatches<'_>, name: &str) -> Option<u32>
+    ensures { IfSome (first_of name.now (rows_of (found_of matches.now)))
+        (IsUnsignedIn 1 options.max_load)
+        → result ≡ spec.number_in name.now (rows_of (found_of matches.now)) }
+{
+    text_in(matches, name)?.parse::<u32>().ok()
+}

@@ -12,6 +12,9 @@ use std::alloc::{AllocError, Global};
 /// The most steps that a run may be given, and that may come before its update.
 const MAX_STEPS: u64 = 10_000_000;
 
+/// The most that a load may be asked for.
+const MAX_LOAD: u64 = 1_000;
+
 /// The name of the file that the command reads.
 fn file<'a>(alloc: Global) -> Arg<'a>
     ensures { (rule_of result ≡ spec.file) × (result.global ≡ false) }
@@ -102,6 +105,15 @@ fn output<'a>(alloc: Global) -> Arg<'a>
     Arg::new(alloc, "output").short('o').required(true)
 }
 
+/// How large the texts of a load are.
+fn number<'a>(alloc: Global) -> Arg<'a>
+    ensures { (rule_of result ≡ spec.number) × (result.global ≡ false) }
+{
+    Arg::new(alloc, "number")
+        .required(true)
+        .value_parser(ValueParser::unsigned(1, MAX_LOAD))
+}
+
 /// A command with no words of its own for help and for the version.
 fn bare<'a>(alloc: Global, name: &'a str) -> Command<'a>
     ensures { app_of result ≡ spec.bare name.entry.now }
@@ -133,6 +145,13 @@ pub(crate) fn points_command<'a>(alloc: Global) -> Result<Command<'a>, AllocErro
     file_command(alloc, "points")
 }
 
+/// `transform FILE`
+pub(crate) fn transform_command<'a>(alloc: Global) -> Result<Command<'a>, AllocError>
+    ensures { IfOk result (λ c. app_of c ≡ spec.transform_app) }
+{
+    file_command(alloc, "transform")
+}
+
 /// `run FILE [--patch P --at N] [--input F] [--seed N] [--schedule F] [--steps N] [--history F]`
 pub(crate) fn run_command<'a>(alloc: Global) -> Result<Command<'a>, AllocError>
     ensures { IfOk result (λ c. app_of c ≡ spec.run_app) }
@@ -156,4 +175,11 @@ pub(crate) fn patch_command<'a>(alloc: Global) -> Result<Command<'a>, AllocError
         .arg(new(alloc))?
         .arg(mapping(alloc))?
         .arg(output(alloc))
+}
+
+/// `load N`
+pub(crate) fn load_command<'a>(alloc: Global) -> Result<Command<'a>, AllocError>
+    ensures { IfOk result (λ c. app_of c ≡ spec.load_app) }
+{
+    bare(alloc, "load").arg(number(alloc))
 }

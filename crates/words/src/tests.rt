@@ -88,6 +88,22 @@ fn the_words_are_the_command(rt: HostRuntime) {
         ("points -h", Command::Usage),
         ("points --version", Command::Usage),
         ("points -- -h", Command::Points("-h")),
+        ("transform", Command::Usage),
+        ("transform a", Command::Transform("a")),
+        ("transform a b", Command::Usage),
+        ("transform -- -h", Command::Transform("-h")),
+        ("transform a --steps 1", Command::Usage),
+        ("load", Command::Usage),
+        ("load 0", Command::Usage),
+        ("load 1", Command::Load(1)),
+        ("load 1000", Command::Load(1000)),
+        ("load +07", Command::Load(7)),
+        ("load 1001", Command::Usage),
+        ("load 4294967297", Command::Usage),
+        ("load x", Command::Usage),
+        ("load -1", Command::Usage),
+        ("load 1 2", Command::Usage),
+        ("load --help", Command::Usage),
         ("run", Command::Usage),
         ("run a.c", Command::Run(run("a.c"))),
         ("run -- -x", Command::Run(run("-x"))),
@@ -146,5 +162,5 @@ fn the_words_are_the_command(rt: HostRuntime) {
 
 #[test]
 fn laws_are_called(_rt: HostRuntime) {
-    crate::laws::run_is_fair_law();
+    crate::laws::command_is_fair_law();
 }

@@ -12,3 +12,8 @@ pub returns-in-Points-len1 : goal.returns-in-Points-len1
 returns-in-Points-len1 c =
     means_one _ _ c.args.texts.now c.source-item-then-this-lt2-2.result _ c.as_bytes-in-Points-len1.result.now _ (ap words_view.command c.in-Points-len1.is-0) (omega arith)
     c.source-item-then-this-lt2-2.is c.as_bytes-in-Points-len1.ensures c.points_meant.ensures
+
+pub returns-in-Transform-len1 : goal.returns-in-Transform-len1
+returns-in-Transform-len1 c =
+    means_one _ _ c.args.texts.now c.source-item-then-this-lt2-3.result _ c.as_bytes-in-Transform-len1.result.now _ (ap words_view.command c.in-Transform-len1.is-0) (omega arith)
+    c.source-item-then-this-lt2-3.is c.as_bytes-in-Transform-len1.ensures c.transform_meant.ensures

@@ -1,5 +1,4 @@
 use Rattle.words.specs.Views as words_view
-use Rattle.upstare_cmd.specs.Views as view
 use Rattle.upstare_cmd.proofs.Running.{told_of_picked}
 use Rattle.upstare_cmd.proofs.run.picked.Goals as goal
 use Rattle.std.proofs.Common.{subst}

@@ -1,5 +1,3 @@
-use Rattle.std.proofs.Common.{◌≡◌, ◌++◌, ◌∙◌, IfOk, ap, subst}
-use Rattle.std.specs.Prelude.{codes}
 use Rattle.world_core.specs.Refused.{named_at_refusal}
 use Rattle.upstare_cmd.proofs.Running.{refused_by}
 use Rattle.upstare_cmd.proofs.told.refusal_words.Goals as goal

@@ -1,0 +1,95 @@
+-- The run of a load, from its texts to what it answers.
+use Rattle.std.proofs.Common.{◌≡◌, ◌∙◌, ℕ, ◌*◌, List, [], ◌∷◌, length, Some, None, sym, ap, subst, arith}
+use Rattle.std.specs.Prelude.{Result, Ok, Err, IfOk}
+use Rattle.std.specs.declared.alloc.AllocError.{AllocError}
+use Rattle.c_tree.specs.declared.lifted.Lifted.{Lifted}
+use Rattle.c_tree.specs.declared.mapping.Mapping.{Mapping}
+use Rattle.c_tree.specs.declared.mapping.Patch as made
+use Rattle.c_tree.specs.declared.run.Settings.{Settings}
+use Rattle.c_tree.specs.Plan.{IsPlanned}
+use Rattle.drive.specs.Driven.{is_short}
+use Rattle.c_tree.specs.declared.run.Picker.TheVariants as picker
+use Rattle.load_texts.specs.Texts as load
+use Rattle.patch_maker.specs.Made.{IsPatch}
+use Rattle.world_core.specs.History.{History, IsRun, core, over}
+use Rattle.upstare_cmd.specs.Answer as meant
+use Rattle.upstare_cmd.specs.Arming.{armed, begun_with}
+use Rattle.upstare_cmd.specs.Command.{LoadMeans, LoadOf, LoadTells, Loads, Means, OfTexts, entries_of, load_names, load_patch, load_settings, settings}
+use Rattle.upstare_cmd.specs.Line as line
+use Rattle.upstare_cmd.specs.Status.{code, status_of}
+use Rattle.upstare_cmd.specs.Update.{update_words}
+use Rattle.upstare_cmd.specs.declared.status.Status.{Status}
+use Rattle.c_tree.specs.declared.run.End.{End}
+use Rattle.upstare_cmd.specs.Views as view
+use Rattle.upstare_cmd.specs.declared.answer.Answer.{Answer}
+use Rattle.upstare_cmd.specs.declared.judged.Judged.TheVariants as judged
+use Rattle.upstare_cmd.proofs.Judging.{of_patch, of_refused}
+use Rattle.words.specs.Command.{Load}
+
+-- what is answered of a run that is over
+pub tells : (h : History) (n : ℕ) (end : End) (output : List ℕ) (steps : ℕ) (update bytes text empty : List ℕ) (pieces : List meant.Piece) (status : Status)
+    → over h ≡ Some end → IsRun h → output ≡ (core h).state.output → steps ≡ (core h).steps → update ≡ update_words h → bytes ≡ update → text ≡ line.loaded n steps bytes
+    → pieces ≡ meant.ToOut text ∷ meant.ToOut output ∷ [] → empty ≡ [] → status ≡ status_of end
+    → LoadTells h.settings n h.events (record { pieces = pieces; line = empty; status = code status })
+tells h n end output steps update bytes text empty pieces status ended leads printed counted updated same told put none is =
+    let all : pieces ≡ meant.ToOut (line.loaded n steps update) ∷ meant.ToOut output ∷ [] =
+    put ∙ ap (λ t. meant.ToOut t ∷ meant.ToOut output ∷ []) (told ∙ ap (line.loaded n steps) same) in (
+      output,
+      steps,
+      update,
+      end,
+      record { core = core h; leads = leads; ends = ended; printed = sym printed; counted = sym counted; updated = sym updated },
+      λ i. record { pieces = all i; line = none i; status = code (is i) },
+    )
+
+-- the events that were driven are planned, and the answer tells their run
+pub told_of_driven : (k : Settings) (n : ℕ) (h : History) (r : Result Answer AllocError) → IsPlanned k (is_short (core h).phase) (picker.Round None) h.events → h.settings ≡ k
+    → IfOk r (λ a. LoadTells h.settings n h.events (view.answer a)) → IfOk r (λ a. Loads n k (view.answer a))
+told_of_driven k n h (Ok a) planned same tells =
+    let short : Settings → Type 0 = λ x. IsPlanned k (is_short (core (record { settings = x; events = h.events })).phase) (picker.Round None) h.events in
+    (h.events, subst short same planned, subst (λ (x : Settings). LoadTells x n h.events (view.answer a)) same tells)
+told_of_driven k n h (Err e) planned same tells = tt
+
+-- what a World was begun with are the settings of the load
+pub of_begun : (p : Lifted) (x : made.Patch) (n at : ℕ) (input : List ℕ) (h : History) (r : Result Answer AllocError) → p ≡ x.old → at ≡ 34 * n → input ≡ []
+    → h ≡ begun_with (settings p (armed (Some (x, at))) input 1000000) → IfOk r (λ a. Loads n h.settings (view.answer a)) → IfOk r (λ a. Loads n (load_settings n x) (view.answer a))
+of_begun p x n at input h r old late empty begun loads =
+    let same : h.settings ≡ load_settings n x =
+    ap (λ (g : History). g.settings) begun ∙ (λ i. settings (old i) (armed (Some (x, late i))) (empty i) 1000000) in
+    subst (λ (k : Settings). IfOk r (λ a. Loads n k (view.answer a))) same loads
+
+pub of_same : (n : ℕ) (x y : made.Patch) (r : Result Answer AllocError) → y ≡ x → IfOk r (λ a. Loads n (load_settings n y) (view.answer a)) → IfOk r (λ a. Loads n (load_settings n x) (view.answer a))
+of_same n x y r is loads = subst (λ (z : made.Patch). IfOk r (λ a. Loads n (load_settings n z) (view.answer a))) is loads
+
+-- the patch of a load's texts is the patch of its programs and entries
+patch_is : (n : ℕ) (p q : Lifted) (m : Mapping) (x : made.Patch) → IsPatch (load.old_source n) p (load.new_source n) q m x → x ≡ load_patch n p q x.entries
+patch_is n p q m x is = λ i. record { old_text = is.old_text i; old = is.old i; new_text = is.new_text i; new = is.new i; entries = x.entries }
+
+loaded : (n : ℕ) (x : made.Patch) (a : meant.Answer) (p q : Lifted) (m : Mapping) → Loads n (load_settings n x) a → IsPatch (load.old_source n) p (load.new_source n) q m x
+    → LoadOf n p q (entries_of p q m) a
+loaded n x a p q m loads is =
+    subst (λ r. LoadOf n p q r a) (sym is.entries.are) (subst (λ (y : made.Patch). Loads n (load_settings n y) a) (patch_is n p q m x is) loads)
+
+-- What a load means, where its texts have a patch.
+pub of_load : (n : ℕ) (old new text : List ℕ) (x : made.Patch) (r : Result Answer AllocError) → old ≡ load.old_source n → new ≡ load.new_source n → text ≡ load.mapping n
+    → view.IsOfTexts load_names old new text (judged.Patch x) → IfOk r (λ a. Loads n (load_settings n x) (view.answer a)) → IfOk r (λ a. LoadMeans n (view.answer a))
+of_load n old new text x (Ok y) a b c of loads =
+    let texts : view.IsOfTexts load_names (load.old_source n) (load.new_source n) (load.mapping n) (judged.Patch x) =
+    subst (λ s. view.IsOfTexts load_names s (load.new_source n) (load.mapping n) (judged.Patch x)) a
+    (subst (λ t. view.IsOfTexts load_names old t (load.mapping n) (judged.Patch x)) b (subst (λ t. view.IsOfTexts load_names old new t (judged.Patch x)) c of)) in
+    of_patch load_names (load.old_source n) (load.new_source n) (load.mapping n) x (λ p q r. LoadOf n p q r (view.answer y)) (view.answer y) texts
+    (λ p q m is. loaded n x (view.answer y) p q m loads is)
+of_load n old new text x (Err e) a b c of loads = tt
+
+-- What a load means, where one of its texts is refused.
+pub of_refused_load : (n : ℕ) (old new text : List ℕ) (y : meant.Answer) → old ≡ load.old_source n → new ≡ load.new_source n → text ≡ load.mapping n
+    → OfTexts load_names old new text (λ p q r. view.TurnsDownEntries load_names.map r y) y → LoadMeans n y
+of_refused_load n old new text y a b c down =
+    let Down : List ℕ → List ℕ → List ℕ → Type 0 = λ s t u. OfTexts load_names s t u (λ p q r. view.TurnsDownEntries load_names.map r y) y in
+    of_refused load_names (load.old_source n) (load.new_source n) (load.mapping n) (λ p q r. LoadOf n p q r y) y (λ p q why is. is)
+    (subst (λ s. Down s (load.new_source n) (load.mapping n)) a (subst (λ t. Down old t (load.mapping n)) b (subst (λ u. Down old new u) c down)))
+
+-- A load reads no text.
+pub means_none : (n : ℕ) (texts : List (List ℕ)) (r : Result Answer AllocError) → length texts ≡ 0 → IfOk r (λ a. LoadMeans n (view.answer a)) → IfOk r (λ a. Means (Load n) texts (view.answer a))
+means_none n [] r none meant = meant
+means_none n (x ∷ rest) r none meant = absurd (omega arith)
