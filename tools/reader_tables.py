@@ -1,12 +1,16 @@
 #!/usr/bin/env python3
 """Writes the reader's tables from tools/grammar.txt.
 
-What it writes is committed (after `rt fmt` in both crates), and the prover checks it: a first set that is too small, a rule that the next token does not
-decide or a table that differs from the definitions is refused there. So nothing here is trusted. The head of
-tools/grammar.txt explains the notation.
+Use: python3 tools/reader_tables.py
+
+What it writes is committed as it is (`rt fmt` changes nothing of it), and the prover checks it: a
+first set that is too small, a rule that the next token does not decide or a table that differs from
+the definitions is refused there. So nothing here is trusted. The head of tools/grammar.txt explains
+the notation.
 """
 import re
 import sys
+import textwrap
 from pathlib import Path
 
 ROOT = Path(__file__).resolve().parent.parent
@@ -30,11 +34,17 @@ class Grammar:
 
     def __init__(self, path):
         sections, current = {}, None
+        self.headings, heading = {}, None
         for line in path.read_text().splitlines():
             if re.fullmatch(r"\[[a-z ]+\]", line):
                 current = sections.setdefault(line[1:-1], [])
-            elif current is not None and line.strip() and not line.startswith("#"):
+            elif current is not None and line.startswith("# "):
+                heading = line[2:]
+            elif current is not None and line.strip():
                 current.append(line)
+                if heading:
+                    self.headings[line.split()[0]] = heading
+                    heading = None
         self.classes = " ".join(sections["classes"]).split()
         self.words = [tuple(line.split()) for line in sections["words"]]
         self.map_words = [tuple(line.split()) for line in sections["map words"]]
@@ -42,10 +52,14 @@ class Grammar:
         self.signs = [tuple(line.split()) for line in sections["signs"]]
         self.sorts = " ".join(sections["sorts"]).split()
         self.actions = {"Leave": ([], []), "Outer": ([], [])}
+        self.functions = {}
         for line in sections["actions"]:
+            line, function = line.split(" : ")
             finds, leaves = line.split("->")
             name, *finds = finds.split()
             self.actions[name] = (finds, leaves.split())
+            path, *alloc = function.split()
+            self.functions[name] = f"{path}({', '.join(alloc + ['values'])})"
         spellings = self.words + self.signs + self.map_words
         self.kinds = self.classes + [kind for kind, _ in spellings]
         self.spelled = {spelling: kind for kind, spelling in spellings}
@@ -276,6 +290,20 @@ def code_symbol(s):
     return f"Act(Action::{s[1]})" if s[0] == "Act" else f"Expand(Rule::{s[1]})"
 
 
+def broken(head, items, width=100):
+    """An array of the code on lines of at most this width, the later ones indented."""
+    items = list(items)
+    lines, line = [], head
+    for i, item in enumerate(items):
+        piece = item + ("," if i + 1 < len(items) else "],")
+        gap = "" if line.endswith("[") or line.isspace() else " "
+        if len(line) + len(gap) + len(piece) > width:
+            lines.append(line)
+            line, gap = " " * 16, ""
+        line += gap + piece
+    return "\n".join(lines + [line]) if items else head + "],"
+
+
 def write(path, text):
     path.parent.mkdir(parents=True, exist_ok=True)
     path.write_text(text.rstrip() + "\n")
@@ -307,30 +335,97 @@ def named(symbols_of, marks=True):
     return "\n".join(lines)
 
 
+CLASSES = {
+    "Name": "An identifier that is no word of the language (ISO C11, 6.4.2).",
+    "Number": "An integer constant (ISO C11, 6.4.4.1).",
+    "Char": "A character constant (ISO C11, 6.4.4.4).",
+    "String": "A string literal (ISO C11, 6.4.5).",
+    "Include": "A line with `#include` (ISO C11, 6.10.2), or the front of a directive that is at fault.",
+    "Define": "A line with `#define` (ISO C11, 6.10.3).",
+    "LeftOut": "A word of C that is left out.",
+    "Other": "A number that no sign has.",
+}
+
+
+def documented(items):
+    """The variants of an enum, each under its lines of documentation."""
+    lines = []
+    for name, text in items:
+        lines += textwrap.wrap(text, 100, initial_indent="    /// ", subsequent_indent="    /// ", break_long_words=False)
+        lines.append(f"    {name},")
+    return "\n".join(lines)
+
+
 def write_kinds(g):
-    body = "".join(f"    {k},\n" for k in g.kinds)
+    spelling = {kind: f"`{text}`" for kind, text in g.words + g.signs + g.map_words}
+    body = documented((k, CLASSES.get(k) or spelling[k]) for k in g.kinds)
     write(GRAMMAR / "src/kind.rt", f"""//! What a token is to the grammar. {HEAD}
 
-/// What a token is to the grammar: a class of tokens, a word or a sign.
-#[derive(Clone, Copy, PartialEq, Eq)]
+/// What a token is to the grammar: a class of tokens, a word or a sign (ISO C11, 6.4). The last
+/// ones are words of mappings, which are names in a source.
+#[derive(Clone, Copy)]
 pub enum Kind {{
-{body}}}
+{body}
+}}
 """)
-    body = "".join(f"    {r},\n" for r in g.order)
+
+
+def write_rule_names(g):
+    lines = []
+    for name, rule in g.paper.items():
+        if name in g.headings:
+            lines += [""] * bool(lines) + [f"    // {g.headings[name]}."]
+        lines.append(documented([(name, "`" + rule.text.strip() + "`")]))
+    body = "\n".join(lines)
     write(GRAMMAR / "src/rule.rt", f"""//! The rules of the grammar. {HEAD}
 
-/// A rule of the grammar, or a part that the reader factors a rule into.
-#[derive(Clone, Copy, PartialEq, Eq)]
+/// A rule of the grammar, or a part that the reader factors a rule into. Each is written as the
+/// sorts of the values that it finds and leaves, and its alternatives, as in tools/grammar.txt.
+#[derive(Clone, Copy)]
 pub enum Rule {{
-{body}}}
+{body}
+}}
 """)
-    body = "".join(f"    {a},\n" for a in g.actions)
+
+
+def write_actions(g):
+    def sorts(finds, leaves):
+        return "`" + " ".join(finds + ["->"] + leaves) + "`"
+
+    special = {"Leave": "Leaves the values, and closes a construct.", "Outer": "Leaves the values, and counts operators anew."}
+    body = documented((a, special.get(a) or sorts(*s)) for a, s in g.actions.items())
     write(GRAMMAR / "src/action.rt", f"""//! What is done with the values that were read. {HEAD}
 
-/// A change of the values that were read.
-#[derive(Clone, Copy, PartialEq, Eq)]
+/// A change of the values that were read: the sorts of those that it takes, the newest last, and of
+/// those that it puts in their place.
+#[derive(Clone, Copy)]
 pub enum Action {{
-{body}}}
+{body}
+}}
+""")
+    arms = "\n".join(f"        Action::{a} => {f}," for a, f in g.functions.items())
+    modules = ", ".join(sorted({f.split("::")[0] for f in g.functions.values()}))
+    write(GRAMMAR / "src/actions/acts.rt", f"""//! Which function does an action. {HEAD}
+
+ghost use Rattle.std.specs.Prelude.{{◌≡◌, reverse, OnOk}};
+ghost use Rattle.c_grammar.specs.Effects.{{value_effect}};
+
+use crate::action::Action;
+use crate::actions::{{{modules}}};
+use crate::value::Value;
+use std::alloc::{{AllocError, Global}};
+
+/// Does the action: the values become what its definition makes of them. The newest value is last.
+#[rattlefmt::skip]
+pub fn act(alloc: Global, action: Action, values: &mut Vec<Value>) -> Result<(), AllocError>
+    ensures {{ OnOk result
+        (reverse values.new.items ≡ value_effect action (reverse values.old.items)) }}
+{{
+    match action {{
+        Action::Leave | Action::Outer => Ok(()),
+{arms}
+    }}
+}}
 """)
 
 
@@ -386,6 +481,7 @@ use Rattle.std.specs.Prelude.{{ℕ, List, [], ◌∷◌, codes}}
 use {DECLARED}.kind.Kind.{{Kind}}
 use {DECLARED}.kind.Kind.TheVariants as kind
 
+-- a word with its kind
 pub record Entry : Type 0 where
   pub text : List ℕ
   pub kind : Kind
@@ -408,24 +504,30 @@ unfoldable pub signs : List Kind
 """)
 
 
+WHOLE = {
+    "start": "what a whole source is",
+    "expr_start": "what a whole expression of a mapping is",
+    "map_start": "what a whole mapping is",
+}
+
+
 def write_rules(g):
     text = []
     for name, rule in g.paper.items():
         text.append("-- " + rule.text)
         text.append(alternatives(name, rule, "alternatives"))
-        text.append("")
     starts = []
     for name, symbols in g.starts.items():
-        starts.append(f"abbrev pub {name} : List Symbol\n{name} = {row(map(symbol, symbols))}\n")
-    body, starts = "\n".join(text), "\n".join(starts)
+        starts.append(f"-- {WHOLE[name]}\nabbrev pub {name} : List Symbol\n{name} = {row(map(symbol, symbols))}\n")
+    body, starts = "\n".join(text) + "\n", "\n".join(starts)
     write(GRAMMAR / "specs/Rules.antt", f"""-- The rules of the grammar, each with its alternatives. {HEAD}
 -- A part that stands or doesn't, or that stands any number of times, is a rule of its own.
 use Rattle.std.specs.Prelude.{{List, [], ◌∷◌}}
 {named(g.paper.values())}
 
+-- the alternatives of each rule, of which a text of the rule follows one
 abbrev pub alternatives : Rule → List (List Symbol)
 {body}
--- What a whole text is: a source, an expression of a mapping, or a mapping.
 {starts}
 """)
 
@@ -485,12 +587,13 @@ abbrev pub rank : Rule → ℕ
     arms = []
     for r in g.order:
         arms.append(f"        Rule::{r} => &[")
-        arms += ["            &[" + ", ".join(map(code_symbol, a)) + "]," for a in g.choices[r].alternatives]
+        arms += [broken("            &[", map(code_symbol, a)) for a in g.choices[r].alternatives]
         arms.append("        ],")
-    firsts = [f"        Rule::{r} => &[" + ", ".join(t.first[r]) + "]," for r in g.order]
+    firsts = [broken(f"        Rule::{r} => &[", t.first[r]) for r in g.order]
     arms, firsts = "\n".join(arms), "\n".join(firsts)
     used = sorted({s[0] for r in g.order for a in g.choices[r].alternatives for s in a})
-    write(READER / "src/table.rt", f"""//! The tables: the alternatives of each rule, and the kinds that its texts begin with. {HEAD}
+    write(READER / "src/table.rt", f"""//! The tables: the alternatives of each rule, and the kinds that its texts begin with.
+//! {HEAD}
 
 ghost use Rattle.std.specs.Prelude.{{◌≡◌, map}};
 ghost use Rattle.c_reader.specs.Choices.{{choices, first_kinds}};
@@ -498,7 +601,7 @@ ghost use Rattle.c_reader.specs.Choices.{{choices, first_kinds}};
 use c_grammar::Symbol::{{{', '.join(used)}}};
 use c_grammar::{{Action, Kind, Mark, Rule, Symbol}};
 
-/// The alternatives of a rule.
+/// The alternatives of a rule, of which the next token picks one.
 #[rattlefmt::skip]
 pub fn alternatives_of(rule: Rule) -> &'static [&'static [Symbol]]
     ensures {{ map (λ s. s.now) result.now ≡ choices rule }}
@@ -719,6 +822,8 @@ def main():
     for conflict in sorted(t.conflicts):
         print("CONFLICT", *conflict)
     write_kinds(g)
+    write_rule_names(g)
+    write_actions(g)
     write_words(g)
     write_rules(g)
     write_reader(g, t)

@@ -26,8 +26,8 @@ use Rattle.c_check.specs.Inner.{Inner, declares, around}
 use Rattle.c_check.specs.Words.{noted, of_type}
 use Rattle.c_check.specs.Statements.{stand, declared, all_reported}
 use Rattle.c_check.specs.Files.{seconds, of_fields, of_struct, of_structs, size_of, lengthed, initialised, of_global, of_globals, all_declared, parametered, bodied, of_function, of_functions, past}
-use Rattle.c_check.specs.Places.{place}
-use Rattle.c_check.proofs.FoundLemmas.{is_some-position}
+use Rattle.c_tree.specs.Names.{find_name}
+use Rattle.name_index.proofs.FoundLemmas.{is_some-position}
 use Rattle.c_check.proofs.NoteLemmas.{noting, noted-append, noted-none}
 
 -- parameters
@@ -270,7 +270,7 @@ pub seconds_end : {X : Type 0} (name : X → At (List ℕ)) (xs : List X) (i : �
     noted f (seconds seen (map name (drop i xs))) ≡ f
 seconds_end name xs i seen f le = ap (λ zs. noted f (seconds seen (map name zs))) (drop_all i xs le) ∙ (ap (noted f) (seconds-none seen) ∙ noted-none f)
 
-pub second_is : (seen : List (List ℕ)) (n : At (List ℕ)) (b : Bool) (o : Option ℕ) (f1 f2 : Option Fault) → o ≡ place n.it seen → b ≡ is_some o →
+pub second_is : (seen : List (List ℕ)) (n : At (List ℕ)) (b : Bool) (o : Option ℕ) (f1 f2 : Option Fault) → o ≡ find_name n.it seen → b ≡ is_some o →
     f2 ≡ noted f1 (unless (not b) (fault n.at (c.Twice n.it))) → f2 ≡ noted f1 (second (reverse seen) n)
 second_is seen n b o f1 f2 is e done =
     done ∙ ap (λ z. noted f1 (unless (not z) (fault n.at (c.Twice n.it))))

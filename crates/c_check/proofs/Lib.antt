@@ -1,13 +1,9 @@
 pub mod CheckLemmas
 pub mod ExprLemmas
 pub mod FileLemmas
-pub mod FoundLemmas
-pub mod NameLemmas
 pub mod NoteLemmas
 pub mod PassLemmas
-pub mod PlaceLemmas
 pub mod PrintLemmas
 pub mod RepeatLemmas
-pub mod SortLemmas
 pub mod StackLemmas
 pub mod StatementLemmas

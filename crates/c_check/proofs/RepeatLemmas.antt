@@ -11,11 +11,12 @@ use Rattle.c_tree.specs.declared.program.Program.{Program}
 use Rattle.c_tree.specs.Fault.{fault, unless}
 use Rattle.c_tree.specs.Scope.{has_name, routine}
 use Rattle.c_tree.specs.Typing.{has_body}
-use Rattle.c_check.specs.Places.{place, item_at}
-use Rattle.c_check.specs.Tables.{names_in}
+use Rattle.c_tree.specs.Names.{find_name}
+use Rattle.name_index.specs.Numbers.{item_at}
+use Rattle.name_index.specs.Tables.{names_in}
 use Rattle.c_check.specs.Words.{noted}
 use Rattle.c_check.specs.Files.{repeats, may_stand}
-use Rattle.c_check.proofs.FoundLemmas.{item_at-place, is_some-place, list_any-filter}
+use Rattle.name_index.proofs.FoundLemmas.{item_at-find_name, is_some-find_name, list_any-filter}
 use Rattle.c_check.proofs.NoteLemmas.{noted-append, noted-none}
 
 pub repeats-none : (p : Program) (seen : List Named) → repeats p seen [] ≡ []
@@ -52,7 +53,7 @@ bodies_more p xs i x bodies now lt here is added =
 
 pub repeats_step : (p : Program) (xs slice : List Named) (i : ℕ) (x : Named) (seen bodies : List (List ℕ)) (other : Option Named) (o : Option ℕ) (d may : Bool) (f1 f2 : Option Fault) →
     i < length xs → x ≡ get_or xs i x → seen ≡ names_in (take i xs) → bodies ≡ names_in (filter (is_body p) (take i xs)) → slice ≡ take i xs →
-    other ≡ item_at (place x.name seen) slice → o ≡ place x.name bodies → d ≡ is_some o →
+    other ≡ item_at (find_name x.name seen) slice → o ≡ find_name x.name bodies → d ≡ is_some o →
     ((s : List Named) → other ≡ find (has_name x.name) s → d ≡ list_any (λ z. has_name x.name z && is_body p z) s → may ≡ may_stand p s x) →
     f2 ≡ noted f1 (unless (not (not may)) (fault x.at (c.Twice x.name))) →
     noted f1 (repeats p (take i xs) (drop i xs)) ≡ noted f2 (repeats p (take (i + 1) xs) (drop (i + 1) xs))
@@ -60,9 +61,9 @@ repeats_step p xs slice i x seen bodies other o d may f1 f2 lt here is_seen is_b
     let rest = drop (i + 1) xs in
     let before = take i xs in
     let first : other ≡ find (has_name x.name) before =
-    is_other ∙ (ap (λ z. item_at (place x.name z) slice) is_seen ∙ (ap (item_at (place x.name (names_in before))) is_slice ∙ item_at-place (λ z. z.name) x.name before)) in
+    is_other ∙ (ap (λ z. item_at (find_name x.name z) slice) is_seen ∙ (ap (item_at (find_name x.name (names_in before))) is_slice ∙ item_at-find_name (λ z. z.name) x.name before)) in
     let body : d ≡ list_any (λ z. has_name x.name z && is_body p z) before =
-    is_d ∙ (ap is_some (is_o ∙ ap (place x.name) is_bodies) ∙ (is_some-place (λ z. z.name) x.name (filter (is_body p) before) ∙ list_any-filter (has_name x.name) (is_body p) before)) in
+    is_d ∙ (ap is_some (is_o ∙ ap (find_name x.name) is_bodies) ∙ (is_some-find_name (λ z. z.name) x.name (filter (is_body p) before) ∙ list_any-filter (has_name x.name) (is_body p) before)) in
     let fits : not (not may) ≡ may_stand p before x = twice may ∙ judged before first body in
     ap (λ zs. noted f1 (repeats p before zs)) (drop_more xs i x lt ∙ ap (λ z. z ∷ rest) (sym here))
     ∙ (ap (noted f1) (repeats-more p before x rest) ∙ (noted-append f1 (again p before x) (repeats p (before ++ x ∷ []) rest)

@@ -264,6 +264,12 @@ if_noted p l l1 ret in_loop at kind x b body other f f1 f2 f3 is same first seco
     ∙ ap (noted f) (ap (λ z. xs ++ ys ++ if_reported p z ret in_loop other) moved ∙ (sym (reported-If p l ret in_loop at x body other)
     ∙ ap (reported p l ret in_loop at) (ap (λ z. s.If x z other) same ∙ sym is)))
 
+pub for_left : (l l0 l1 l2 l3 : Inner) (at : ℕ) (starts : List Stmt) (x : Option Expr) (step : Option Stmt) (body : Stmt) (n block : ℕ) → l0 ≡ entered l → l1 ≡ all_passed l0 starts →
+    l2 ≡ passed l1 body.at body.kind → n ≡ length l.names → block ≡ l.block → l3 ≡ left n block l2 → l3 ≡ passed l at (s.For starts x step body)
+for_left l l0 l1 l2 l3 at starts x step body n block enters first second names is_block end =
+    end ∙ (ap (λ m. left m block l2) names ∙ (ap (λ m. left (length l.names) m l2) is_block
+    ∙ (ap (left (length l.names) l.block) (second ∙ ap (λ z. passed z body.at body.kind) (first ∙ ap (λ z. all_passed z starts) enters)) ∙ sym (passed-For l at starts x step body))))
+
 pub in_body_noted : (p q : Program) (l m : Inner) (ret r : Ty) (in_loop : Bool) (body : Stmt) (f1 f2 : Option Fault) → q ≡ p → r ≡ ret → in_loop ≡ true → m ≡ l →
     f2 ≡ noted f1 (reported q m r in_loop body.at body.kind) → f2 ≡ noted f1 (reported p l ret true body.at body.kind)
 in_body_noted p q l m ret r in_loop body f1 f2 file result loops same e =

@@ -1,9 +1,8 @@
 -- What a function has declared so far.
-use Rattle.std.specs.Prelude.{ℕ, ◌+◌, ◌-◌, List, ◌∷◌, [], ◌++◌, length, take, drop, Option, Some, None}
+use Rattle.std.specs.Prelude.{ℕ, ◌+◌, ◌-◌, List, ◌∷◌, [], ◌++◌, length, take, drop}
 use Rattle.c_tree.specs.declared.ty.Ty.{Ty}
 use Rattle.c_tree.specs.declared.program.Program.{Program}
 use Rattle.c_tree.specs.declared.scope.Named.{Named}
-use Rattle.c_tree.specs.declared.scope.Meaning.{Meaning}
 use Rattle.c_tree.specs.declared.scope.Meaning.TheVariants as m
 use Rattle.c_tree.specs.Scope.{Scope, names_of}
 
@@ -24,10 +23,6 @@ declares l at name t = record {
 -- the scope in a file
 abbrev pub around : Program → Inner → Scope
 around p l = record { names = l.names ++ names_of p; program = p; slots = l.slots }
-
-abbrev pub meaning_of : Option Named → Option Meaning
-meaning_of None = None
-meaning_of (Some x) = Some x.meaning
 
 -- at the beginning of a block
 abbrev pub entered : Inner → Inner

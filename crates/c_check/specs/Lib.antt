@@ -1,11 +1,9 @@
 pub mod Files
 pub mod Inner
 pub mod Laws
-pub mod Places
 pub mod Refusal
 pub mod Stack
 pub mod Standing
 pub mod Statements
-pub mod Tables
 pub mod Tests
 pub mod Words

@@ -13,16 +13,20 @@ abbrev pub height : List ℕ → List Named → Option ℕ
 height name [] = None
 height name (x ∷ rest) = if has_name name x then Some (length rest) else height name rest
 
+-- whether a height is there and isn't below the start of a block
 abbrev pub is_at_least : ℕ → Option ℕ → Bool
 is_at_least start None = false
 is_at_least start (Some i) = nat_le start i
 
+-- a table from names to the heights of their nearest declarations
 abbrev pub Heights : Type 0
 Heights = IndexMap (List ℕ) (Option ℕ) (BuildHasherDefault FoldHasher)
 
+-- the height that a table gives for a name
 abbrev pub height_at : Heights → List ℕ → Option ℕ
 height_at t name = unwrap_or (get (pointwise nat_eq) t name) None
 
+-- the declared names of some entries
 abbrev pub named_by : List Entry → List Named
 named_by entries = map (λ e. e.named) entries
 

@@ -9,7 +9,7 @@ use Rattle.c_check.specs.declared.types.Test.{Test}
 use Rattle.c_check.specs.declared.types.Test.TheVariants as test
 use Rattle.c_check.specs.declared.types.Operand.{Operand}
 
--- the flag tells a literal 0
+-- the types that a test passes; the flag tells a literal 0
 abbrev pub passes : Test → Bool → Ty → Bool
 passes test.Int literal = is_int
 passes test.Pointer literal = is_pointer
@@ -18,9 +18,11 @@ passes test.Thread literal = is_thread
 passes test.Freeable literal = is_freeable literal
 passes test.Anything literal = anything
 
+-- the test for the operand of a prefix operator
 abbrev pub test_of : UnOp → Test
 test_of un.Not = test.Testable
 test_of _ = test.Int
 
+-- an operand as a side of an operator
 abbrev pub side_of : Operand → Side
 side_of a = record { type = a.ty; zero = a.is_zero }

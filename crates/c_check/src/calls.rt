@@ -1,19 +1,20 @@
 //! What is called, started and locked.
 
-ghost use Rattle.std.specs.Prelude.{◌≡◌, codes, Some, OnOk};
+ghost use Rattle.std.specs.Prelude.{◌≡◌, codes, Some, IfOk, OnOk};
+ghost use Rattle.c_tree.specs.declared.ty.Ty.TheVariants as ty;
 ghost use Rattle.c_tree.specs.Scope.{is_same_name};
 ghost use Rattle.c_tree.specs.Typing as typing;
 ghost use Rattle.c_check.specs.Inner.{around};
 ghost use Rattle.c_check.specs.Words.{noted, lvalued, started, locked};
 
-use crate::file::File;
 use crate::locals::Locals;
 use crate::note::{note, note_known, note_unless};
 use crate::scope::{meaning, routine};
-use crate::types::is_any_pointer;
-use c_tree::{At, CheckCause, Expr, ExprKind, Fault, Field, Function, Meaning, Name};
+use c_tree::{At, CheckCause, Expr, ExprKind, Fault, Field, Function, Meaning, Name, Ty};
+use name_index::File;
 use std::alloc::AllocError;
 
+/// Whether a name is `main`.
 pub fn is_main(name: &Name) -> bool
     ensures { result ≡ is_same_name name.now (codes "main") }
 {
@@ -30,7 +31,8 @@ pub fn note_call(
     file: &File<'_>,
     first: &mut Option<Fault>,
 ) -> Result<(), AllocError>
-    ensures { OnOk result (first.new ≡ noted first.old (typing.call_faults file.now at name.now count (Some function.now))) }
+    ensures { OnOk result (first.new ≡ noted first.old
+        (typing.call_faults file.now at name.now count (Some function.now))) }
 {
     note_known(first, file.is_defined(name), at, name)?;
     let may_be_called = !is_main(name) && count == function.params.len();
@@ -42,7 +44,7 @@ fn takes_any_pointer(params: &[Field]) -> bool
     ensures { result ≡ typing.takes_any_pointer params.now }
 {
     match params {
-        [param] => is_any_pointer(&param.ty),
+        [param] => param.ty.is_any_pointer(),
         _ => false,
     }
 }
@@ -55,13 +57,14 @@ pub fn note_start(
     locals: &Locals,
     first: &mut Option<Fault>,
 ) -> Result<(), AllocError>
-    ensures { OnOk result (first.new ≡ noted first.old (started (around file.now locals.now) name.now)) }
+    ensures { OnOk result (first.new ≡ noted first.old
+        (started (around file.now locals.now) name.now)) }
 {
     match routine(file, meaning(file, locals, &name.it)) {
         None => note(first, name.at, CheckCause::Unknown(name.it.clone()?)),
         Some(function) => {
             note_known(first, file.is_defined(&name.it), name.at, &name.it)?;
-            let may_start = is_any_pointer(&function.ret)
+            let may_start = function.ret.is_any_pointer()
                 && takes_any_pointer(function.params.as_slice());
             note_unless(first, may_start, name.at, CheckCause::BadStart);
         }
@@ -71,14 +74,15 @@ pub fn note_start(
 
 /// Notes what is wrong with a mutex that is locked or unlocked.
 #[tactic(auto, unfolding(crate::specs::Words::locked, crate::specs::Words::noted))]
-pub fn note_lock(
+fn note_lock(
     at: u32,
     name: &At<Name>,
     file: &File<'_>,
     locals: &Locals,
     first: &mut Option<Fault>,
 ) -> Result<(), AllocError>
-    ensures { OnOk result (first.new ≡ noted first.old (locked (around file.now locals.now) at name.now)) }
+    ensures { OnOk result (first.new ≡ noted first.old
+        (locked (around file.now locals.now) at name.now)) }
 {
     match meaning(file, locals, &name.it) {
         Meaning::Nothing => note(first, name.at, CheckCause::Unknown(name.it.clone()?)),
@@ -86,6 +90,22 @@ pub fn note_lock(
         _ => note(first, at, CheckCause::BadCall),
     }
     Ok(())
+}
+
+/// The type that a lock or an unlock gives.
+pub fn lock(
+    at: u32,
+    name: &At<Name>,
+    file: &File<'_>,
+    locals: &Locals,
+    first: &mut Option<Fault>,
+) -> Result<Option<Ty>, AllocError>
+    ensures ty { IfOk result (λ t. t ≡ Some ty.Int) }
+    ensures faults { OnOk result (first.new
+        ≡ noted first.old (locked (around file.now locals.now) at name.now)) }
+{
+    note_lock(at, name, file, locals, first)?;
+    Ok(Some(Ty::Int))
 }
 
 /// Notes a define that stands as an lvalue.

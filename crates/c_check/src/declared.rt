@@ -10,20 +10,20 @@ ghost use Rattle.c_tree.specs.Typing as typing;
 ghost use Rattle.c_check.specs.Words.{noted};
 ghost use Rattle.c_check.specs.Files.{seconds, of_fields, of_struct, of_structs, repeats, may_stand};
 
-use crate::file::File;
-use crate::index::Index;
 use crate::note::{note_twice, note_unless};
 use crate::structs::note_type;
 use c_tree::{At, Fault, Field, Name, Struct};
+use name_index::{File, Index};
 use std::alloc::{AllocError, Global};
 
 /// Notes a name that stands a second time, and adds it to those before.
 fn with_name(seen: Index, name: &At<Name>, first: &mut Option<Fault>) -> Result<Index, AllocError>
     ensures seen { IfOk result (λ s. s ≡ seen ++ name.now.it ∷ []) }
     ensures faults { OnOk result (first.new ≡ noted first.old
-        (unless (not (list_any (scope.is_same_name name.now.it) (reverse seen))) (fault name.now.at (cause.Twice name.now.it)))) }
+        (unless (not (list_any (scope.is_same_name name.now.it) (reverse seen)))
+        (fault name.now.at (cause.Twice name.now.it)))) }
 {
-    let is_second = seen.place(&name.it).is_some();
+    let is_second = seen.number(&name.it).is_some();
     note_twice(first, is_second, name.at, &name.it)?;
     let seen = seen.with(&name.it)?;
     Ok(seen)
@@ -35,7 +35,8 @@ pub fn second_structs(
     structs: &[Struct],
     first: &mut Option<Fault>,
 ) -> Result<(), AllocError>
-    ensures { OnOk result (first.new ≡ noted first.old (seconds [] (map (λ d. d.name) structs.now))) }
+    ensures { OnOk result (first.new ≡ noted first.old
+        (seconds [] (map (λ d. d.name) structs.now))) }
 {
     let mut seen = Index::new(alloc);
     for owner in structs {
@@ -50,7 +51,8 @@ fn second_fields(
     fields: &[Field],
     first: &mut Option<Fault>,
 ) -> Result<(), AllocError>
-    ensures { OnOk result (first.new ≡ noted first.old (seconds [] (map (λ f. f.name) fields.now))) }
+    ensures { OnOk result (first.new ≡ noted first.old
+        (seconds [] (map (λ f. f.name) fields.now))) }
 {
     let mut seen = Index::new(alloc);
     for field in fields {

@@ -1,18 +1,19 @@
 //! The types and the faults of expressions.
 
-ghost use Rattle.std.specs.Prelude.{◌≡◌, drop, IfOk, OnOk};
+ghost use Rattle.std.specs.Prelude.{◌≡◌, ◌++◌, drop, Some, IfOk, OnOk};
+ghost use Rattle.c_tree.specs.declared.ty.Ty.TheVariants as ty;
 ghost use Rattle.c_check.specs.Inner.{around};
 ghost use Rattle.c_check.specs.Tests.{side_of};
-ghost use Rattle.c_check.specs.Words.{noted, typed, found, valued, fitted, sided, placed, filled, argued, arguments};
+ghost use Rattle.c_check.specs.Words.{noted, typed, found, valued, fitted, sided, placed, filled, started, argued, arguments};
 
-use crate::calls::{note_call, note_lock, note_lvalue, note_start};
-use crate::file::File;
+use crate::calls::{lock, note_call, note_lvalue, note_start};
 use crate::locals::Locals;
 use crate::note::{ask, note, note_unless};
 use crate::scope::{element_of, is_zero, meaning, routine, value_of_name};
-use crate::structs::{field_of, note_type};
+use crate::structs::{field_of, note_type, object_of};
 use crate::types::{Operand, Test, may_fit, may_pass, takes, test_of};
-use c_tree::{CheckCause, Expr, ExprKind, Fault, Field, Name, Ty};
+use c_tree::{At, BinOp, CheckCause, Expr, ExprKind, Fault, Field, Name, Ty};
+use name_index::File;
 use std::alloc::AllocError;
 
 /// The type of an expression. Its faults are noted, but for what is asked of its value.
@@ -25,7 +26,8 @@ pub fn expr(
     first: &mut Option<Fault>,
 ) -> Result<Option<Ty>, AllocError>
     ensures ty { IfOk result (λ t. t ≡ typed (around file.now locals.now) x.now.kind) }
-    ensures faults { OnOk result (first.new ≡ noted first.old (found (around file.now locals.now) x.now.at x.now.kind)) }
+    ensures faults { OnOk result (first.new ≡ noted first.old
+        (found (around file.now locals.now) x.now.at x.now.kind)) }
 {
     match &x.kind {
         ExprKind::Num(_) => Ok(Some(Ty::Int)),
@@ -33,19 +35,14 @@ pub fn expr(
         ExprKind::Getchar => Ok(Some(Ty::Int)),
         ExprKind::Null => Ok(Some(Ty::AnyPtr)),
         ExprKind::Slot(_, _) => Ok(None),
-        ExprKind::Name(name) => {
-            let ty = value_of_name(x.at, name, file, locals, first)?;
-            Ok(ty)
-        }
+        ExprKind::Name(name) => value_of_name(x.at, name, file, locals, first),
         ExprKind::Index(name, index) => {
             value(index.get(), Test::Int, file, locals, first)?;
-            let ty = element_of(x.at, name, file, locals, first)?;
-            Ok(ty)
+            element_of(x.at, name, file, locals, first)
         }
         ExprKind::Field(base, name) => {
             let owner = value(base.get(), Test::Anything, file, locals, first)?;
-            let ty = field_of(x.at, &owner, name, file, first)?;
-            Ok(ty)
+            field_of(x.at, &owner, name, file, first)
         }
         ExprKind::Un(op, a) => {
             value(a.get(), test_of(*op), file, locals, first)?;
@@ -57,39 +54,43 @@ pub fn expr(
             note_unless(first, takes(*op, &left, &right), x.at, CheckCause::BadType);
             Ok(Some(Ty::Int))
         }
-        ExprKind::Cast(ty, a) => {
-            note_type(x.at, ty, file, first)?;
-            value(a.get(), Test::Pointer, file, locals, first)?;
-            Ok(Some(ty.clone()?))
-        }
-        ExprKind::Call(name, args) => {
-            let ty = call(x.at, name, args.as_slice(), file, locals, first)?;
-            Ok(ty)
-        }
-        ExprKind::Malloc(name) => {
-            let ty = Ty::Ptr(name.it.clone()?);
-            note_type(name.at, &ty, file, first)?;
-            Ok(Some(ty))
-        }
-        ExprKind::Create(dest, name, argument) => {
-            place_of(dest.get(), Test::Thread, file, locals, first)?;
+        ExprKind::Cast(to, a) => cast(x.at, to, a.get(), file, locals, first),
+        ExprKind::Call(name, args) => call(x.at, name, args.as_slice(), file, locals, first),
+        ExprKind::Malloc(name) => object_of(name, file, first),
+        ExprKind::Create(to, name, a) => {
+            place_of(to.get(), Test::Thread, file, locals, first)?;
             note_start(name, file, locals, first)?;
-            fitting(argument.get(), &Ty::AnyPtr, file, locals, first)?;
+            fitting(a.get(), &Ty::AnyPtr, file, locals, first)?;
             Ok(Some(Ty::Int))
         }
         ExprKind::Join(a) => {
             value(a.get(), Test::Thread, file, locals, first)?;
             Ok(Some(Ty::Int))
         }
-        ExprKind::Lock(name) => {
-            note_lock(x.at, name, file, locals, first)?;
-            Ok(Some(Ty::Int))
-        }
-        ExprKind::Unlock(name) => {
-            note_lock(x.at, name, file, locals, first)?;
-            Ok(Some(Ty::Int))
-        }
+        ExprKind::Lock(name) => lock(x.at, name, file, locals, first),
+        ExprKind::Unlock(name) => lock(x.at, name, file, locals, first),
     }
+}
+
+/// The type that a cast gives.
+#[cycle(expr)]
+#[tactic(auto, using(crate::proofs::ExprLemmas::forms))]
+fn cast(
+    at: u32,
+    to: &Ty,
+    a: &Expr,
+    file: &File<'_>,
+    locals: &Locals,
+    first: &mut Option<Fault>,
+) -> Result<Option<Ty>, AllocError>
+    ensures ty { IfOk result (λ t. t
+        ≡ typed (around file.now locals.now) (ExprKind.Cast to.now a.now)) }
+    ensures faults { OnOk result (first.new
+        ≡ noted first.old (found (around file.now locals.now) at (ExprKind.Cast to.now a.now))) }
+{
+    note_type(at, to, file, first)?;
+    value(a, Test::Pointer, file, locals, first)?;
+    Ok(Some(to.clone()?))
 }
 
 /// The type of an expression whose value is to pass a test.
@@ -103,7 +104,8 @@ pub fn value(
     first: &mut Option<Fault>,
 ) -> Result<Option<Ty>, AllocError>
     ensures ty { IfOk result (λ t. t ≡ typed (around file.now locals.now) x.now.kind) }
-    ensures faults { OnOk result (first.new ≡ noted first.old (valued (around file.now locals.now) test x.now)) }
+    ensures faults { OnOk result (first.new ≡ noted first.old
+        (valued (around file.now locals.now) test x.now)) }
 {
     let ty = expr(x, file, locals, first)?;
     let passes = may_pass(test, is_zero(x, file, locals), &ty);
@@ -121,7 +123,8 @@ pub fn fitting(
     locals: &Locals,
     first: &mut Option<Fault>,
 ) -> Result<(), AllocError>
-    ensures { OnOk result (first.new ≡ noted first.old (fitted (around file.now locals.now) asked.now x.now)) }
+    ensures { OnOk result (first.new ≡ noted first.old
+        (fitted (around file.now locals.now) asked.now x.now)) }
 {
     let ty = expr(x, file, locals, first)?;
     let passes = may_fit(asked, is_zero(x, file, locals), &ty);
@@ -139,7 +142,8 @@ pub fn place(
     first: &mut Option<Fault>,
 ) -> Result<Option<Ty>, AllocError>
     ensures ty { IfOk result (λ t. t ≡ typed (around file.now locals.now) x.now.kind) }
-    ensures faults { OnOk result (first.new ≡ noted first.old (placed (around file.now locals.now) x.now)) }
+    ensures faults { OnOk result (first.new ≡ noted first.old
+        (placed (around file.now locals.now) x.now)) }
 {
     let ty = expr(x, file, locals, first)?;
     note_lvalue(x, file, locals, first);
@@ -156,7 +160,8 @@ pub fn place_of(
     locals: &Locals,
     first: &mut Option<Fault>,
 ) -> Result<(), AllocError>
-    ensures { OnOk result (first.new ≡ noted first.old (filled (around file.now locals.now) test x.now)) }
+    ensures { OnOk result (first.new ≡ noted first.old
+        (filled (around file.now locals.now) test x.now)) }
 {
     let ty = place(x, file, locals, first)?;
     let passes = may_pass(test, is_zero(x, file, locals), &ty);
@@ -174,7 +179,8 @@ fn operand(
     first: &mut Option<Fault>,
 ) -> Result<Operand, AllocError>
     ensures side { IfOk result (λ a. side_of a ≡ sided (around file.now locals.now) x.now.kind) }
-    ensures faults { OnOk result (first.new ≡ noted first.old (valued (around file.now locals.now) (Test.Anything) x.now)) }
+    ensures faults { OnOk result (first.new ≡ noted first.old
+        (valued (around file.now locals.now) (Test.Anything) x.now)) }
 {
     let ty = value(x, Test::Anything, file, locals, first)?;
     Ok(Operand {
@@ -194,8 +200,10 @@ fn call(
     locals: &Locals,
     first: &mut Option<Fault>,
 ) -> Result<Option<Ty>, AllocError>
-    ensures ty { IfOk result (λ t. t ≡ typed (around file.now locals.now) (ExprKind.Call name.now args.now)) }
-    ensures faults { OnOk result (first.new ≡ noted first.old (found (around file.now locals.now) at (ExprKind.Call name.now args.now))) }
+    ensures ty { IfOk result (λ t. t ≡ typed (around file.now locals.now)
+        (ExprKind.Call name.now args.now)) }
+    ensures faults { OnOk result (first.new ≡ noted first.old
+        (found (around file.now locals.now) at (ExprKind.Call name.now args.now))) }
 {
     match routine(file, meaning(file, locals, name)) {
         None => {
@@ -220,7 +228,8 @@ fn all_arguments(
     locals: &Locals,
     first: &mut Option<Fault>,
 ) -> Result<(), AllocError>
-    ensures { OnOk result (first.new ≡ noted first.old (arguments (around file.now locals.now) params.now args.now)) }
+    ensures { OnOk result (first.new ≡ noted first.old
+        (arguments (around file.now locals.now) params.now args.now)) }
 {
     let mut left = params;
     for arg in args {
@@ -240,7 +249,8 @@ fn argument<'a>(
     first: &mut Option<Fault>,
 ) -> Result<&'a [Field], AllocError>
     ensures rest { IfOk result (λ r. r.now ≡ drop 1 params.now) }
-    ensures faults { OnOk result (first.new ≡ noted first.old (argued (around file.now locals.now) params.now arg.now)) }
+    ensures faults { OnOk result (first.new ≡ noted first.old
+        (argued (around file.now locals.now) params.now arg.now)) }
 {
     match params {
         [] => {

@@ -8,15 +8,14 @@ ghost use Rattle.c_check.specs.Words.{noted};
 ghost use Rattle.c_check.specs.Files.{all_declared, parametered, bodied, of_function, of_functions, past};
 
 use crate::calls::is_main;
-use crate::file::File;
 use crate::locals::Locals;
 use crate::note::{note, note_known, note_unless};
 use crate::simple::declare;
 use crate::stand::Stand;
 use crate::stmt::statements;
 use crate::structs::note_type;
-use crate::types::is_int;
 use c_tree::{CheckCause, Fault, Field, Function, LimitKind, Row, Stmt, Ty};
+use name_index::File;
 use std::alloc::{AllocError, Global};
 
 /// The most functions that a file may define.
@@ -61,7 +60,7 @@ fn may_be_main(ret: &Ty, params: &[Field]) -> bool
     ensures { result ≡ (types.is_int ret.now && typing.has_no_parameters params.now) }
 {
     match params {
-        [] => is_int(ret),
+        [] => ret.is_int(),
         _ => false,
     }
 }
@@ -74,7 +73,8 @@ fn parameters(
     first: &mut Option<Fault>,
 ) -> Result<(), AllocError>
     ensures locals { OnOk result (locals.new ≡ all_declared locals.old params.now) }
-    ensures faults { OnOk result (first.new ≡ noted first.old (parametered file.now locals.old params.now)) }
+    ensures faults { OnOk result (first.new ≡ noted first.old
+        (parametered file.now locals.old params.now)) }
 {
     for param in params {
         declare(
@@ -98,7 +98,8 @@ fn body(
     locals: &mut Locals,
     first: &mut Option<Fault>,
 ) -> Result<(), AllocError>
-    ensures { OnOk result (first.new ≡ noted first.old (bodied file.now locals.old ret.now body.now)) }
+    ensures { OnOk result (first.new ≡ noted first.old
+        (bodied file.now locals.old ret.now body.now)) }
 {
     match body {
         None => Ok(()),
@@ -127,7 +128,8 @@ pub fn too_many(functions: &[Function], first: &mut Option<Fault>)
 /// The number of definitions that may follow a function, of which there may be so many from it on.
 #[tactic(auto, using(crate::proofs::FileLemmas::passing))]
 fn room_after(function: &Function, room: usize, first: &mut Option<Fault>) -> usize
-    ensures { (rest : List Function) → noted first.old (past room (function.now ∷ rest)) ≡ noted first.new (past result rest) }
+    ensures { (rest : List Function) → noted first.old (past room (function.now ∷ rest))
+        ≡ noted first.new (past result rest) }
 {
     if function.body.is_none() {
         return room;

@@ -3,19 +3,17 @@
 ghost use Rattle.std.specs.Prelude.{◌≡◌, ◌+◌, ◌≤◌, min, List, ◌∷◌, Option, Some, IfOk, OnOk};
 ghost use Rattle.std.specs.Option.{option_copied};
 ghost use Rattle.c_tree.specs.Scope as scope;
-ghost use Rattle.c_tree.specs.Types as types;
 ghost use Rattle.c_tree.specs.Typing as typing;
 ghost use Rattle.c_tree.specs.declared.program.Define.{Define};
 ghost use Rattle.c_check.specs.Words.{noted};
 ghost use Rattle.c_check.specs.Files.{size_of, lengthed, initialised, of_global, of_globals};
 
-use crate::file::File;
 use crate::note::{note, note_unless};
 use crate::structs::note_type;
-use crate::types::{is_int, is_pointer};
 use c_tree::{
-    At, CheckCause, Const, Count, Define, Fault, GlobalDecl, LimitKind, Meaning, Name, Program, Ty,
+    At, CheckCause, Const, Count, Define, Fault, GlobalDecl, LimitKind, Meaning, Name, Ty,
 };
+use name_index::File;
 use std::alloc::AllocError;
 
 /// The longest array, in words.
@@ -80,25 +78,6 @@ fn global(
     Ok(())
 }
 
-/// What a name stands for outside all functions.
-fn meaning(file: &File<'_>, name: &Name) -> Meaning
-    ensures { result ≡ scope.meaning (scope.file_scope file.now) name.now }
-{
-    match file.named(name) {
-        Some(named) => named.meaning,
-        None => Meaning::Nothing,
-    }
-}
-
-fn define(program: &Program, what: Meaning) -> Option<&Define>
-    ensures { option_copied result ≡ types.define program.now what }
-{
-    match what {
-        Meaning::Constant(i) => program.defines.as_slice().get(i as usize),
-        _ => None,
-    }
-}
-
 /// A number that is not below 0, and else 0.
 fn magnitude(minus: bool, n: i32) -> u32
     ensures { result ≡ typing.magnitude minus n }
@@ -122,7 +101,7 @@ fn length(count: &Count, file: &File<'_>) -> u32
 {
     match count {
         Count::Number(n) => magnitude(false, *n),
-        Count::Named(name) => match define(file.program(), meaning(file, name)) {
+        Count::Named(name) => match file.define(file.meaning(name)) {
             None => 1,
             Some(define) => magnitude(define.minus, define.value),
         },
@@ -159,7 +138,7 @@ fn note_length(
         None => Ok(()),
         Some(count) => match &count.it {
             Count::Number(_) => Ok(()),
-            Count::Named(name) => note_constant(count.at, name, meaning(file, name), first),
+            Count::Named(name) => note_constant(count.at, name, file.meaning(name), first),
         },
     }
 }
@@ -167,13 +146,14 @@ fn note_length(
 fn number_fits(ty: &Ty, minus: bool, n: i32) -> bool
     ensures { result ≡ typing.number_fits ty.now minus n }
 {
-    is_int(ty) || is_pointer(ty) && !minus && n == 0
+    ty.is_int() || ty.is_pointer() && !minus && n == 0
 }
 
 /// Notes a define whose number does not fit a type.
 #[tactic(auto, unfolding(crate::specs::Words::noted))]
 fn note_define(ty: &Ty, at: u32, define: Option<&Define>, first: &mut Option<Fault>)
-    ensures { (d : Option Define) → option_copied define.entry ≡ d → first.new ≡ noted first.old (typing.define_faults ty.now at d) }
+    ensures { (d : Option Define) → option_copied define.entry ≡ d → first.new
+        ≡ noted first.old (typing.define_faults ty.now at d) }
 {
     match define {
         None => {}
@@ -207,7 +187,8 @@ fn note_const(
     file: &File<'_>,
     first: &mut Option<Fault>,
 ) -> Result<(), AllocError>
-    ensures { OnOk result (first.new ≡ noted first.old (typing.const_faults (scope.file_scope file.now) ty.now at init.now)) }
+    ensures { OnOk result (first.new ≡ noted first.old
+        (typing.const_faults (scope.file_scope file.now) ty.now at init.now)) }
 {
     match init {
         Const::Number(minus, n) => {
@@ -215,13 +196,13 @@ fn note_const(
             Ok(())
         }
         Const::Named(name) => {
-            let what = meaning(file, name);
+            let what = file.meaning(name);
             note_constant(at, name, what, first)?;
-            note_define(ty, at, define(file.program(), what), first);
+            note_define(ty, at, file.define(what), first);
             Ok(())
         }
         Const::Null => {
-            note_unless(first, is_pointer(ty), at, CheckCause::BadInit);
+            note_unless(first, ty.is_pointer(), at, CheckCause::BadInit);
             Ok(())
         }
     }

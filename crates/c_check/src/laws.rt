@@ -9,8 +9,8 @@ pub fn first_fault_law()
     ensures none { WellTypedHasNoFault }
 {}
 
-/// Where a program is refused at an offset, one of its faults stands there with this cause, and none
-/// of its faults comes before it. So no program is both accepted and refused.
+/// Where a program is refused at an offset, one of its faults stands there with this cause, and
+/// none of its faults comes before it. So no program is both accepted and refused.
 pub fn refusal_law()
     ensures first { RefusedAtTheFirst }
     ensures not_well_typed { RefusedIsNotWellTyped }

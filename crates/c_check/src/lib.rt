@@ -1,19 +1,16 @@
 //! Typing of a C program: whether a tree that was read is well typed, and its first fault if not.
 //!
-//! The layers above rest on one contract, that of `check`: it gives `Ok` exactly where the program is
-//! well typed, and else the first fault.
+//! The layers above rest on one contract, that of `check`: it gives `Ok` exactly where the program
+//! is well typed, and else the first fault.
 #![tactic(auto)]
 
 mod calls;
 mod declared;
 mod expr;
-mod file;
 mod function;
 mod global;
-mod index;
 mod laws;
 mod locals;
-mod names;
 mod note;
 mod print;
 mod program;
@@ -26,7 +23,6 @@ mod stmt;
 mod structs;
 mod types;
 
-pub use c_tree::{CheckCause, Checked};
 pub use laws::{first_fault_law, refusal_law};
 pub use program::check;
 pub use refusal::CheckRefused;

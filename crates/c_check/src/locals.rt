@@ -6,8 +6,7 @@ ghost use Rattle.std.specs.Option.{option_copied, option_map};
 ghost use Rattle.std.specs.Cmp.Lexicographic.{pointwise};
 ghost use Rattle.c_tree.specs.Scope.{has_name};
 
-use crate::names::number;
-use c_tree::{Meaning, Name, Named, Ty};
+use c_tree::{Meaning, Name, Named, Ty, narrowed};
 use indexmap::IndexMap;
 use std::alloc::{AllocError, Global};
 use std::marker::Model;
@@ -27,7 +26,6 @@ pub struct Mark {
 }
 
 /// Contracts see the names that can be used, the nearest first, and the types of all slots.
-#[derive(Drop)]
 pub struct Locals {
     /// The nearest last.
     entries: Vec<Entry>,
@@ -38,6 +36,17 @@ pub struct Locals {
     slots: Vec<Ty>,
 }
 
+impl Drop for Locals {
+    fn drop(self) {
+        let Locals {
+            entries: _,
+            block: _,
+            heights: _,
+            slots: _,
+        } = self;
+    }
+}
+
 impl Model for Locals {
     ghost use Rattle.std.specs.Prelude.{reverse};
     ghost use Rattle.c_check.specs.Inner.{Inner};
@@ -46,14 +55,21 @@ impl Model for Locals {
 
     ghost use Rattle.c_check.specs.Stack.{IsStackOf, named_by};
 
-    ghost view = { λ l. record { names = named_by (reverse l.entries.items); block = l.block; slots = l.slots.items } };
+    ghost view = { λ l. record {
+      names = named_by (reverse l.entries.items);
+      block = l.block;
+      slots
+          = l.slots.items;
+    } };
 
     ghost invariant = { λ l. IsStackOf l.heights (reverse l.entries.items) l.block };
 }
 
 impl Locals {
-    ghost use Rattle.c_check.specs.Inner.{cut, declares, entered, left, meaning_of};
+    ghost use Rattle.c_check.specs.Inner.{cut, declares, entered, left};
+    ghost use Rattle.name_index.specs.Meanings.{meaning_of};
 
+    /// No names, in the outermost block of a function.
     pub fn new(alloc: Global) -> Locals
         ensures { result ≡ record { names = []; block = 0; slots = [] } }
     {
@@ -97,6 +113,7 @@ impl Locals {
         self.slots.len()
     }
 
+    /// The type of a parameter or a local by its number, from 0.
     pub fn slot(&self, i: usize) -> Option<&Ty>
         ensures { option_copied result ≡ slice_get self.now.slots i }
     {
@@ -114,7 +131,8 @@ impl Locals {
     }
 
     fn entry(&self, name: &Name) -> Option<&Entry>
-        ensures { option_map (λ e. e.named) (option_copied result) ≡ find (has_name name.now) self.now.names }
+        ensures { option_map (λ e. e.named) (option_copied result)
+            ≡ find (has_name name.now) self.now.names }
     {
         entry_of(&self.heights, self.entries.as_slice(), name)
     }
@@ -128,10 +146,11 @@ impl Locals {
         is_from(height_of(&self.heights, name), start)
     }
 
+    /// Declares a local of the innermost block: its name is the nearest from here on.
     pub fn declare(&mut self, at: u32, name: &Name, ty: &Ty) -> Result<(), AllocError>
         ensures { OnOk result (self.new ≡ declares self.old at name.now ty.now) }
     {
-        let meaning = Meaning::Local(number(self.slots.len())?);
+        let meaning = Meaning::Local(narrowed(self.slots.len())?);
         let before = height_of(&self.heights, name);
         let key = name.clone()?;
         let named = Named {
@@ -165,7 +184,8 @@ impl Locals {
     /// Ends the use of the nearest name.
     fn forget(&mut self) -> Result<(), AllocError>
         requires { self.old.block ≡ 0 }
-        ensures { OnOk result (self.new ≡ record { names = drop 1 self.old.names; block = 0; slots = self.old.slots }) }
+        ensures { OnOk result (self.new ≡ record
+            { names = drop 1 self.old.names; block = 0; slots = self.old.slots }) }
     {
         if let Some(entry) = self.entries.pop() {
             set_height(&mut self.heights, entry.named.name, entry.before)?;
@@ -182,7 +202,7 @@ impl Locals {
     }
 }
 
-ghost use Rattle.c_check.specs.Places.{item_at};
+ghost use Rattle.name_index.specs.Numbers.{item_at};
 ghost use Rattle.c_check.specs.Stack.{height_at, is_at_least};
 
 /// Whether there is a place, and it is not before `start`.
@@ -219,8 +239,10 @@ fn set_height(
     name: Name,
     height: Option<usize>,
 ) -> Result<(), AllocError>
-    ensures ok { OnOk result ((q : List ℕ) → height_at heights.new q ≡ cond (pointwise nat_eq name q) height (height_at heights.old q)) }
-    ensures unchanged { OnErr result ((q : List ℕ) → height_at heights.new q ≡ height_at heights.old q) }
+    ensures ok { OnOk result ((q : List ℕ) → height_at heights.new q
+        ≡ cond (pointwise nat_eq name q) height (height_at heights.old q)) }
+    ensures unchanged { OnErr result ((q : List ℕ) → height_at heights.new q
+        ≡ height_at heights.old q) }
     ensures absent { OnErr result (height_at heights.old name ≡ None) }
 {
     heights.insert(name, height)?;

@@ -78,7 +78,8 @@ pub fn note_known(
     at: u32,
     name: &Name,
 ) -> Result<(), AllocError>
-    ensures { OnOk result (first.new ≡ noted first.old (spec.unless is_known (spec.fault at (CheckCause.Unknown name.now)))) }
+    ensures { OnOk result (first.new ≡ noted first.old
+        (spec.unless is_known (spec.fault at (CheckCause.Unknown name.now)))) }
 {
     if !is_known {
         note(first, at, CheckCause::Unknown(name.clone()?));
@@ -94,7 +95,8 @@ pub fn note_known_struct(
     at: u32,
     name: &Name,
 ) -> Result<(), AllocError>
-    ensures { OnOk result (first.new ≡ noted first.old (spec.unless is_known (spec.unknown_struct at name.now))) }
+    ensures { OnOk result (first.new ≡ noted first.old
+        (spec.unless is_known (spec.unknown_struct at name.now))) }
 {
     if !is_known {
         let cause = CheckCause::Unknown(name.clone()?);
@@ -111,7 +113,8 @@ pub fn note_twice(
     at: u32,
     name: &Name,
 ) -> Result<(), AllocError>
-    ensures { OnOk result (first.new ≡ noted first.old (spec.unless (not is_second) (spec.fault at (CheckCause.Twice name.now)))) }
+    ensures { OnOk result (first.new ≡ noted first.old
+        (spec.unless (not is_second) (spec.fault at (CheckCause.Twice name.now)))) }
 {
     if is_second {
         note(first, at, CheckCause::Twice(name.clone()?));

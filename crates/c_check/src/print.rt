@@ -7,11 +7,11 @@ ghost use Rattle.c_check.specs.Words.{noted};
 ghost use Rattle.c_check.specs.Statements.{printed, all_ints};
 
 use crate::expr::value;
-use crate::file::File;
 use crate::locals::Locals;
 use crate::note::note_unless;
 use crate::types::Test;
 use c_tree::{CheckCause, Expr, Fault};
+use name_index::File;
 use std::alloc::AllocError;
 
 /// The number of `%d` in a text, if there is no directive but `%d` and `%%`.
@@ -50,7 +50,8 @@ fn all_ints(
     locals: &Locals,
     first: &mut Option<Fault>,
 ) -> Result<(), AllocError>
-    ensures { OnOk result (first.new ≡ noted first.old (all_ints (around file.now locals.now) args.now)) }
+    ensures { OnOk result (first.new ≡ noted first.old
+        (all_ints (around file.now locals.now) args.now)) }
 {
     for arg in args {
         value(arg, Test::Int, file, locals, first)?;
@@ -59,6 +60,8 @@ fn all_ints(
 }
 
 #[tactic(auto, using(crate::proofs::NoteLemmas::noting), unfolding(crate::specs::Statements::printed))]
+/// Notes the faults of a `printf`: its text has one `%d` for each argument, and no directive but
+/// `%d` and `%%`, and the arguments are `int`s.
 pub fn print(
     at: u32,
     text: &[u8],
@@ -67,7 +70,8 @@ pub fn print(
     locals: &Locals,
     first: &mut Option<Fault>,
 ) -> Result<(), AllocError>
-    ensures { OnOk result (first.new ≡ noted first.old (printed (around file.now locals.now) at text.now args.now)) }
+    ensures { OnOk result (first.new ≡ noted first.old
+        (printed (around file.now locals.now) at text.now args.now)) }
 {
     note_unless(first, has_count(text, args.len()), at, CheckCause::BadCall);
     all_ints(args, file, locals, first)

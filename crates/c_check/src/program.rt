@@ -1,6 +1,7 @@
 //! The check of a whole program.
 
 ghost use Rattle.std.specs.Prelude.{◌≡◌, IfOk, IfErr, OnOk};
+ghost use Rattle.c_tree.specs.ReadForm.{HasReadForm};
 ghost use Rattle.c_tree.specs.Typing as typing;
 ghost use Rattle.c_tree.specs.Typing.{IsWellTyped};
 ghost use Rattle.c_check.specs.Refusal.{IsRefusal};
@@ -8,19 +9,21 @@ ghost use Rattle.c_check.specs.Words.{noted};
 ghost use Rattle.c_check.specs.Files.{of_declarations, of_main, of_routines};
 
 use crate::declared::{second_structs, structs};
-use crate::file::File;
 use crate::function::{functions, too_many};
 use crate::global::globals;
 use crate::note::note_unless;
 use crate::refusal::CheckRefused;
 use crate::repeats::repeated_names;
 use c_tree::{CheckCause, Checked, Fault, Program, Text};
+use name_index::File;
 use std::alloc::{AllocError, Global};
 
-/// Gives a program back as one that is well typed, or says what its first fault is: the one of the
-/// smallest offset, and at one offset that of the first cause in the order of `CheckCause`.
+/// Gives a program that was read back as one that is well typed, or says what its first fault is:
+/// the one of the smallest offset, and at one offset that of the first cause in the order of
+/// `CheckCause`.
 pub fn check(alloc: Global, program: Program) -> Result<Checked, CheckRefused>
-    ensures ok { IfOk result (λ c. c.program ≡ program) }
+    requires { HasReadForm program }
+    ensures ok { IfOk result (λ c. c ≡ program) }
     ensures well_typed { OnOk result (IsWellTyped program) }
     ensures refused { IfErr result (IsRefusal program) }
 {

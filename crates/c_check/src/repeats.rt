@@ -9,12 +9,10 @@ ghost use Rattle.c_tree.specs.declared.scope.Named.{Named};
 ghost use Rattle.c_check.specs.Words.{noted};
 ghost use Rattle.c_check.specs.Files.{repeats, may_stand};
 
-use crate::file::{File, at_place};
-use crate::index::Index;
 use crate::note::note_twice;
 use crate::scope::routine;
-use crate::types::is_same_type;
 use c_tree::{Fault, Field, Function, Named};
+use name_index::{File, Index, at_number};
 use std::alloc::{AllocError, Global};
 
 fn are_same_types(a: &[Field], b: &[Field]) -> bool
@@ -25,7 +23,7 @@ fn are_same_types(a: &[Field], b: &[Field]) -> bool
         match left {
             [] => return false,
             [y, rest @ ..] => {
-                if !is_same_type(&x.ty, &y.ty) {
+                if !x.ty.is_same(&y.ty) {
                     return false;
                 }
                 left = rest;
@@ -39,7 +37,7 @@ fn agree(a: Option<&Function>, b: Option<&Function>) -> bool
     ensures { result ≡ typing.agree (option_copied a.entry) (option_copied b.entry) }
 {
     match (a, b) {
-        (Some(f), Some(g)) => is_same_type(&f.ret, &g.ret)
+        (Some(f), Some(g)) => f.ret.is_same(&g.ret)
             && are_same_types(f.params.as_slice(), g.params.as_slice()),
         _ => false,
     }
@@ -58,8 +56,10 @@ fn has_body(function: Option<&Function>) -> bool
 /// of its name has a body already.
 #[tactic(auto, unfolding(crate::specs::Files::may_stand))]
 fn may_follow(other: Option<&Named>, x: &Named, is_defined: bool, file: &File<'_>) -> bool
-    ensures { (seen : List Named) → option_copied other.entry ≡ find (scope.has_name x.now.name) seen →
-        is_defined ≡ list_any (λ z. scope.has_name x.now.name z && typing.has_body (scope.routine file.now z.meaning)) seen →
+    ensures { (seen : List Named) → option_copied other.entry
+        ≡ find (scope.has_name x.now.name) seen →
+        is_defined ≡ list_any (λ z. scope.has_name x.now.name z && typing.has_body
+        (scope.routine file.now z.meaning)) seen →
         result ≡ may_stand file.now seen x.now }
 {
     match other {
@@ -73,7 +73,8 @@ fn may_follow(other: Option<&Named>, x: &Named, is_defined: bool, file: &File<'_
 
 /// The names of functions with a body, with one more where it is such a name.
 fn with_body(bodies: Index, x: &Named, file: &File<'_>) -> Result<Index, AllocError>
-    ensures { IfOk result (λ s. s ≡ (if typing.has_body (scope.routine file.now x.now.meaning) then bodies ++ x.now.name ∷ [] else bodies)) }
+    ensures { IfOk result (λ s. s ≡ (if typing.has_body (scope.routine file.now x.now.meaning) then
+        bodies ++ x.now.name ∷ [] else bodies)) }
 {
     if has_body(routine(file, x.meaning)) {
         bodies.with(&x.name)
@@ -88,14 +89,15 @@ pub fn repeated_names(
     file: &File<'_>,
     first: &mut Option<Fault>,
 ) -> Result<(), AllocError>
-    ensures { OnOk result (first.new ≡ noted first.old (repeats file.now [] (scope.names_of file.now))) }
+    ensures { OnOk result (first.new ≡ noted first.old
+        (repeats file.now [] (scope.names_of file.now))) }
 {
     let names = file.names();
     let mut seen = Index::new(alloc);
     let mut bodies = Index::new(alloc);
     for (i, x) in names.iter().enumerate() {
-        let other = at_place(&seen, &x.name, &names[..i]);
-        let is_defined = bodies.place(&x.name).is_some();
+        let other = at_number(&seen, &x.name, &names[..i]);
+        let is_defined = bodies.number(&x.name).is_some();
         let may = may_follow(other, x, is_defined, file);
         note_twice(first, !may, x.at, &x.name)?;
         seen = seen.with(&x.name)?;

@@ -8,10 +8,12 @@ ghost use Rattle.c_tree.specs.Scope as spec;
 ghost use Rattle.c_check.specs.Inner.{around};
 ghost use Rattle.c_check.specs.Words.{noted, typed, found, element, indexed};
 
-use crate::file::File;
 use crate::locals::Locals;
 use crate::note::note;
-use c_tree::{CheckCause, Expr, ExprKind, Fault, Function, GlobalDecl, Meaning, Name, Program, Ty};
+use c_tree::{
+    CheckCause, Define, Expr, ExprKind, Fault, Function, GlobalDecl, Meaning, Name, Program, Ty,
+};
+use name_index::File;
 use std::alloc::AllocError;
 
 /// What a name stands for.
@@ -20,10 +22,7 @@ pub fn meaning(file: &File<'_>, locals: &Locals, name: &Name) -> Meaning
 {
     match locals.nearest(name) {
         Some(what) => what,
-        None => match file.named(name) {
-            Some(named) => named.meaning,
-            None => Meaning::Nothing,
-        },
+        None => file.meaning(name),
     }
 }
 
@@ -43,15 +42,12 @@ fn is_zero_number(n: i32) -> bool
     n == 0
 }
 
-fn is_zero_define(program: &Program, what: Meaning) -> bool
-    ensures { result ≡ types.is_zero_define (types.define program.now what) }
+fn is_zero_define(define: Option<&Define>) -> bool
+    ensures { result ≡ types.is_zero_define (option_copied define.entry) }
 {
-    match what {
-        Meaning::Constant(i) => match program.defines.as_slice().get(i as usize) {
-            Some(define) => !define.minus && is_zero_number(define.value),
-            None => false,
-        },
-        _ => false,
+    match define {
+        Some(define) => !define.minus && is_zero_number(define.value),
+        None => false,
     }
 }
 
@@ -61,7 +57,7 @@ pub fn is_zero(x: &Expr, file: &File<'_>, locals: &Locals) -> bool
 {
     match &x.kind {
         ExprKind::Num(n) => is_zero_number(*n),
-        ExprKind::Name(name) => is_zero_define(file.program(), meaning(file, locals, name)),
+        ExprKind::Name(name) => is_zero_define(file.define(meaning(file, locals, name))),
         _ => false,
     }
 }
@@ -118,7 +114,8 @@ fn note_name(
     what: Meaning,
     ty: &Option<Ty>,
 ) -> Result<(), AllocError>
-    ensures { OnOk result (first.new ≡ noted first.old (typing.name_faults at name.now what ty.now)) }
+    ensures { OnOk result (first.new ≡ noted first.old
+        (typing.name_faults at name.now what ty.now)) }
 {
     if ty.is_some() {
         return Ok(());
@@ -139,8 +136,10 @@ pub fn value_of_name(
     locals: &Locals,
     first: &mut Option<Fault>,
 ) -> Result<Option<Ty>, AllocError>
-    ensures ty { IfOk result (λ t. t ≡ typed (around file.now locals.now) (ExprKind.Name name.now)) }
-    ensures faults { OnOk result (first.new ≡ noted first.old (found (around file.now locals.now) at (ExprKind.Name name.now))) }
+    ensures ty { IfOk result (λ t. t ≡ typed (around file.now locals.now)
+        (ExprKind.Name name.now)) }
+    ensures faults { OnOk result (first.new ≡ noted first.old
+        (found (around file.now locals.now) at (ExprKind.Name name.now))) }
 {
     let what = meaning(file, locals, name);
     let ty = name_type(file, locals, what)?;
@@ -158,7 +157,8 @@ pub fn element_of(
     first: &mut Option<Fault>,
 ) -> Result<Option<Ty>, AllocError>
     ensures ty { IfOk result (λ t. t ≡ element (around file.now locals.now) name.now) }
-    ensures faults { OnOk result (first.new ≡ noted first.old (indexed (around file.now locals.now) at name.now)) }
+    ensures faults { OnOk result (first.new ≡ noted first.old
+        (indexed (around file.now locals.now) at name.now)) }
 {
     let what = meaning(file, locals, name);
     let ty = element_type(file.program(), what)?;

@@ -6,12 +6,12 @@ ghost use Rattle.c_check.specs.Words.{found, noted, valued};
 ghost use Rattle.c_check.specs.Statements.{declared, initial, tested, fitted_to, returned, assigned};
 
 use crate::expr::{expr, fitting, place, place_of, value};
-use crate::file::File;
 use crate::locals::Locals;
 use crate::note::{note, note_twice, note_unless};
 use crate::structs::note_type;
 use crate::types::Test;
 use c_tree::{BinOp, CheckCause, Expr, Fault, LimitKind, Name, Ty};
+use name_index::File;
 use std::alloc::AllocError;
 
 /// The most parameters and locals that a function may have.
@@ -28,7 +28,8 @@ pub fn declare(
     first: &mut Option<Fault>,
 ) -> Result<(), AllocError>
     ensures locals { OnOk result (locals.new ≡ declares locals.old at name.now ty.now) }
-    ensures faults { OnOk result (first.new ≡ noted first.old (declared file.now locals.old at name.now ty.now)) }
+    ensures faults { OnOk result (first.new ≡ noted first.old
+        (declared file.now locals.old at name.now ty.now)) }
 {
     note_twice(first, locals.is_declared(name), at, name)?;
     note_type(at, ty, file, first)?;
@@ -46,7 +47,8 @@ pub fn initial(
     locals: &Locals,
     first: &mut Option<Fault>,
 ) -> Result<(), AllocError>
-    ensures { OnOk result (first.new ≡ noted first.old (initial (around file.now locals.now) ty.now given.now)) }
+    ensures { OnOk result (first.new ≡ noted first.old
+        (initial (around file.now locals.now) ty.now given.now)) }
 {
     match given {
         None => Ok(()),
@@ -65,7 +67,8 @@ pub fn loop_test(
     locals: &Locals,
     first: &mut Option<Fault>,
 ) -> Result<(), AllocError>
-    ensures { OnOk result (first.new ≡ noted first.old (tested (around file.now locals.now) test.now)) }
+    ensures { OnOk result (first.new ≡ noted first.old
+        (tested (around file.now locals.now) test.now)) }
 {
     match test {
         None => Ok(()),
@@ -86,7 +89,8 @@ pub fn give_back(
     locals: &Locals,
     first: &mut Option<Fault>,
 ) -> Result<(), AllocError>
-    ensures { OnOk result (first.new ≡ noted first.old (returned (around file.now locals.now) at ret.now given.now)) }
+    ensures { OnOk result (first.new ≡ noted first.old
+        (returned (around file.now locals.now) at ret.now given.now)) }
 {
     match (ret, given) {
         (Ty::Void, None) => Ok(()),
@@ -115,7 +119,8 @@ fn fitting_to(
     locals: &Locals,
     first: &mut Option<Fault>,
 ) -> Result<(), AllocError>
-    ensures { OnOk result (first.new ≡ noted first.old (fitted_to (around file.now locals.now) asked.now x.now)) }
+    ensures { OnOk result (first.new ≡ noted first.old
+        (fitted_to (around file.now locals.now) asked.now x.now)) }
 {
     match asked {
         None => {
@@ -139,7 +144,8 @@ pub fn assign(
     locals: &Locals,
     first: &mut Option<Fault>,
 ) -> Result<(), AllocError>
-    ensures { OnOk result (first.new ≡ noted first.old (assigned (around file.now locals.now) x.now op.now y.now)) }
+    ensures { OnOk result (first.new ≡ noted first.old
+        (assigned (around file.now locals.now) x.now op.now y.now)) }
 {
     match op {
         None => {
@@ -162,7 +168,8 @@ pub fn run(
     locals: &Locals,
     first: &mut Option<Fault>,
 ) -> Result<(), AllocError>
-    ensures { OnOk result (first.new ≡ noted first.old (found (around file.now locals.now) x.now.at x.now.kind)) }
+    ensures { OnOk result (first.new ≡ noted first.old
+        (found (around file.now locals.now) x.now.at x.now.kind)) }
 {
     expr(x, file, locals, first)?;
     Ok(())
@@ -175,7 +182,8 @@ pub fn free(
     locals: &Locals,
     first: &mut Option<Fault>,
 ) -> Result<(), AllocError>
-    ensures { OnOk result (first.new ≡ noted first.old (valued (around file.now locals.now) (Test.Freeable) x.now)) }
+    ensures { OnOk result (first.new ≡ noted first.old
+        (valued (around file.now locals.now) (Test.Freeable) x.now)) }
 {
     value(x, Test::Freeable, file, locals, first)?;
     Ok(())

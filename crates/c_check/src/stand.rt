@@ -2,8 +2,8 @@
 
 ghost use Rattle.std.specs.Prelude.{◌≡◌, true};
 
-use crate::file::File;
 use c_tree::Ty;
+use name_index::File;
 
 /// The file, the function's result, and whether a loop is around.
 #[derive(Drop)]

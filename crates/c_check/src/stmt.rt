@@ -1,9 +1,11 @@
 //! Statements.
 
-ghost use Rattle.std.specs.Prelude.{◌≡◌, length, OnOk};
-ghost use Rattle.c_check.specs.Inner.{entered, left};
-ghost use Rattle.c_check.specs.Words.{noted};
-ghost use Rattle.c_check.specs.Statements.{passed, all_passed, if_passed};
+ghost use Rattle.std.specs.Prelude.{◌≡◌, ◌++◌, ℕ, true, length, OnOk};
+ghost use Rattle.c_tree.specs.Fault.{fault, unless};
+ghost use Rattle.c_tree.specs.declared.cause.CheckCause.TheVariants as cause;
+ghost use Rattle.c_check.specs.Inner.{around, entered, left};
+ghost use Rattle.c_check.specs.Words.{noted, valued};
+ghost use Rattle.c_check.specs.Statements.{passed, all_passed, if_passed, reported};
 ghost use Rattle.c_check.specs.Standing.{reports, all_report, if_reports};
 
 use crate::expr::value;
@@ -13,7 +15,7 @@ use crate::print::print;
 use crate::simple::{assign, declare, free, give_back, initial, loop_test, run};
 use crate::stand::Stand;
 use crate::types::Test;
-use c_tree::{Boxed, CheckCause, Fault, Stmt, StmtKind};
+use c_tree::{Boxed, CheckCause, Expr, Fault, Stmt, StmtKind};
 use std::alloc::AllocError;
 
 /// Notes the faults of a statement. The name of a declaration stays in use after it, and no other.
@@ -26,7 +28,8 @@ pub fn statement(
     first: &mut Option<Fault>,
 ) -> Result<(), AllocError>
     ensures locals { OnOk result (locals.new ≡ passed locals.old stmt.now.at stmt.now.kind) }
-    ensures faults { OnOk result (first.new ≡ noted first.old (reports stand.now locals.old stmt.now.at stmt.now.kind)) }
+    ensures faults { OnOk result (first.new ≡ noted first.old
+        (reports stand.now locals.old stmt.now.at stmt.now.kind)) }
 {
     let file = stand.file;
     let mark = locals.mark();
@@ -68,14 +71,8 @@ pub fn statement(
         StmtKind::Run(x) => run(x, file, locals, first),
         StmtKind::Free(x) => free(x, file, locals, first),
         StmtKind::Print(text, args) => {
-            print(
-                stmt.at,
-                text.as_bytes(),
-                args.as_slice(),
-                file,
-                locals,
-                first,
-            )
+            let (text, args) = (text.as_bytes(), args.as_slice());
+            print(stmt.at, text, args, file, locals, first)
         }
     }
 }
@@ -89,7 +86,8 @@ pub fn statements(
     first: &mut Option<Fault>,
 ) -> Result<(), AllocError>
     ensures locals { OnOk result (locals.new ≡ all_passed locals.old body.now) }
-    ensures faults { OnOk result (first.new ≡ noted first.old (all_report stand.now locals.old body.now)) }
+    ensures faults { OnOk result (first.new ≡ noted first.old
+        (all_report stand.now locals.old body.now)) }
 {
     for stmt in body {
         statement(stmt, stand, locals, first)?;
@@ -106,8 +104,10 @@ fn block(
     locals: &mut Locals,
     first: &mut Option<Fault>,
 ) -> Result<(), AllocError>
-    ensures locals { OnOk result (locals.new ≡ left (length locals.old.names) locals.old.block (all_passed (entered locals.old) body.now)) }
-    ensures faults { OnOk result (first.new ≡ noted first.old (all_report stand.now (entered locals.old) body.now)) }
+    ensures locals { OnOk result (locals.new ≡ left (length locals.old.names) locals.old.block
+        (all_passed (entered locals.old) body.now)) }
+    ensures faults { OnOk result (first.new ≡ noted first.old
+        (all_report stand.now (entered locals.old) body.now)) }
 {
     let mark = locals.mark();
     locals.enter();
@@ -126,7 +126,8 @@ fn optional(
     first: &mut Option<Fault>,
 ) -> Result<(), AllocError>
     ensures locals { OnOk result (locals.new ≡ if_passed locals.old stmt.now) }
-    ensures faults { OnOk result (first.new ≡ noted first.old (if_reports stand.now locals.old stmt.now)) }
+    ensures faults { OnOk result (first.new ≡ noted first.old
+        (if_reports stand.now locals.old stmt.now)) }
 {
     match stmt {
         None => Ok(()),
@@ -144,7 +145,8 @@ fn aside(
     first: &mut Option<Fault>,
 ) -> Result<(), AllocError>
     ensures locals { OnOk result (locals.new ≡ locals.old) }
-    ensures faults { OnOk result (first.new ≡ noted first.old (if_reports stand.now locals.old stmt.now)) }
+    ensures faults { OnOk result (first.new ≡ noted first.old
+        (if_reports stand.now locals.old stmt.now)) }
 {
     let mark = locals.mark();
     let slots = locals.slots();

@@ -1,13 +1,14 @@
 //! Structs in types, and their fields.
 
-ghost use Rattle.std.specs.Prelude.{◌≡◌, Option, is_some, IfOk, OnOk};
+ghost use Rattle.std.specs.Prelude.{◌≡◌, Option, Some, is_some, IfOk, OnOk};
 ghost use Rattle.c_tree.specs.declared.ty.Ty.{Ty};
+ghost use Rattle.c_tree.specs.declared.ty.Ty.TheVariants as ty;
 ghost use Rattle.c_tree.specs.Typing.{field_faults};
 ghost use Rattle.c_check.specs.Words.{noted, member, selected, of_type};
 
-use crate::file::File;
 use crate::note::{note_known_struct, note_unless};
-use c_tree::{CheckCause, Fault, Name, Ty};
+use c_tree::{At, CheckCause, Fault, Name, Ty};
+use name_index::File;
 use std::alloc::AllocError;
 
 /// Notes where a struct in a type is not declared.
@@ -42,6 +43,21 @@ fn member_type(owner: &Option<Ty>, name: &Name, file: &File<'_>) -> Result<Optio
     }
 }
 
+/// The type that `malloc` of a struct gives. It is noted where the struct is not declared.
+pub fn object_of(
+    name: &At<Name>,
+    file: &File<'_>,
+    first: &mut Option<Fault>,
+) -> Result<Option<Ty>, AllocError>
+    ensures ty { IfOk result (λ t. t ≡ Some (ty.Ptr name.now.it)) }
+    ensures faults { OnOk result (first.new
+        ≡ noted first.old (of_type file.now name.now.at (ty.Ptr name.now.it))) }
+{
+    let ty = Ty::Ptr(name.it.clone()?);
+    note_type(name.at, &ty, file, first)?;
+    Ok(Some(ty))
+}
+
 /// The type of a field of a value, whose type is that of `owner`.
 #[tactic(auto, unfolding(crate::specs::Words::member, crate::specs::Words::selected))]
 pub fn field_of(
@@ -52,7 +68,8 @@ pub fn field_of(
     first: &mut Option<Fault>,
 ) -> Result<Option<Ty>, AllocError>
     ensures ty { IfOk result (λ t. t ≡ member file.now owner.now name.now) }
-    ensures faults { OnOk result (first.new ≡ noted first.old (selected file.now at owner.now name.now)) }
+    ensures faults { OnOk result (first.new ≡ noted first.old
+        (selected file.now at owner.now name.now)) }
 {
     let ty = member_type(owner, name, file)?;
     note_field(first, at, owner, ty.is_some());
@@ -62,7 +79,8 @@ pub fn field_of(
 /// Notes where a value has no such field, if its type can be told.
 #[tactic(auto, unfolding(crate::specs::Words::noted))]
 fn note_field(first: &mut Option<Fault>, at: u32, owner: &Option<Ty>, is_there: bool)
-    ensures { (t : Option Ty) → is_there ≡ is_some t → first.new ≡ noted first.old (field_faults at owner.now t) }
+    ensures { (t : Option Ty) → is_there ≡ is_some t → first.new
+        ≡ noted first.old (field_faults at owner.now t) }
 {
     match owner {
         None | Some(Ty::Void) => {}

@@ -2,14 +2,13 @@
 
 ghost use Rattle.std.specs.Prelude.{◌≡◌};
 ghost use Rattle.c_tree.specs.Types as spec;
-ghost use Rattle.c_tree.specs.Scope as scope;
 ghost use Rattle.c_tree.specs.Typing as typing;
 ghost use Rattle.c_check.specs.Tests as tests;
 
 use c_tree::{BinOp, Ty, UnOp};
 
 /// What is asked of a value's type.
-#[derive(Clone, Copy, PartialEq, Eq, Debug)]
+#[derive(Clone, Copy, PartialEq, Eq)]
 pub enum Test {
     Int,
     Pointer,
@@ -41,11 +40,11 @@ fn passes(test: Test, is_zero: bool, ty: &Ty) -> bool
     ensures { result ≡ tests.passes test is_zero ty.now }
 {
     match test {
-        Test::Int => is_int(ty),
-        Test::Pointer => is_pointer(ty),
+        Test::Int => ty.is_int(),
+        Test::Pointer => ty.is_pointer(),
         Test::Testable => is_testable(ty),
         Test::Thread => matches!(ty, Ty::Thread),
-        Test::Freeable => is_zero || is_pointer(ty),
+        Test::Freeable => is_zero || ty.is_pointer(),
         Test::Anything => true,
     }
 }
@@ -70,41 +69,10 @@ pub fn may_fit(asked: &Ty, is_zero: bool, ty: &Option<Ty>) -> bool
     }
 }
 
-pub fn is_same_type(a: &Ty, b: &Ty) -> bool
-    ensures { result ≡ scope.is_same_type a.now b.now }
-{
-    match (a, b) {
-        (Ty::Int, Ty::Int) => true,
-        (Ty::Thread, Ty::Thread) => true,
-        (Ty::Void, Ty::Void) => true,
-        (Ty::AnyPtr, Ty::AnyPtr) => true,
-        (Ty::Ptr(a), Ty::Ptr(b)) => a == b,
-        _ => false,
-    }
-}
-
-pub fn is_int(ty: &Ty) -> bool
-    ensures { result ≡ spec.is_int ty.now }
-{
-    matches!(ty, Ty::Int)
-}
-
-pub fn is_any_pointer(ty: &Ty) -> bool
-    ensures { result ≡ spec.is_any_pointer ty.now }
-{
-    matches!(ty, Ty::AnyPtr)
-}
-
-pub fn is_pointer(ty: &Ty) -> bool
-    ensures { result ≡ spec.is_pointer ty.now }
-{
-    matches!(ty, Ty::AnyPtr | Ty::Ptr(_))
-}
-
 fn is_testable(ty: &Ty) -> bool
     ensures { result ≡ spec.is_testable ty.now }
 {
-    is_int(ty) || is_pointer(ty)
+    ty.is_int() || ty.is_pointer()
 }
 
 fn may_be_int(ty: &Option<Ty>) -> bool
@@ -112,7 +80,7 @@ fn may_be_int(ty: &Option<Ty>) -> bool
 {
     match ty {
         None | Some(Ty::Void) => true,
-        Some(ty) => is_int(ty),
+        Some(ty) => ty.is_int(),
     }
 }
 
@@ -128,21 +96,22 @@ fn may_be_testable(ty: &Option<Ty>) -> bool
 fn fits(asked: &Ty, given: &Ty, is_zero: bool) -> bool
     ensures { result ≡ spec.fits asked.now given.now is_zero }
 {
-    is_same_type(asked, given)
-        || is_pointer(asked)
-            && (is_zero || is_pointer(given) && (is_any_pointer(asked) || is_any_pointer(given)))
+    asked.is_same(given)
+        || asked.is_pointer()
+            && (is_zero || given.is_pointer() && (asked.is_any_pointer() || given.is_any_pointer()))
 }
 
 fn are_alike(a: &Ty, zero_a: bool, b: &Ty, zero_b: bool) -> bool
     ensures { result ≡ spec.are_alike a.now zero_a b.now zero_b }
 {
-    is_int(a) && is_int(b)
-        || is_pointer(a) && (zero_b || fits(a, b, false))
-        || is_pointer(b) && zero_a
+    a.is_int() && b.is_int()
+        || a.is_pointer() && (zero_b || fits(a, b, false))
+        || b.is_pointer() && zero_a
 }
 
 fn are_comparable(a: &Option<Ty>, zero_a: bool, b: &Option<Ty>, zero_b: bool) -> bool
-    ensures { result ≡ spec.are_comparable (record { type = a.now; zero = zero_a }) (record { type = b.now; zero = zero_b }) }
+    ensures { result ≡ spec.are_comparable (record { type = a.now; zero = zero_a })
+        (record { type = b.now; zero = zero_b }) }
 {
     match (a, b) {
         (Some(Ty::Void), _) => may_be_testable(b),

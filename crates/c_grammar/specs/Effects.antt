@@ -1,12 +1,14 @@
 -- What the actions make of the values that were read, and what is known beside the values.
-use Rattle.std.specs.Prelude.{ℕ, ℤ, pos, ◌+◌, ◌-◌, List, [], ◌∷◌, ◌++◌, Bool, true, false, Option, Some, None, cond, codes}
+use Rattle.std.specs.Prelude.{ℕ, ℤ, pos, ◌≡◌, ◌+◌, ◌-◌, List, [], ◌∷◌, ◌++◌, Bool, true, false, Option, Some, None, cond, codes, reverse}
 use Rattle.std.specs.Fmt.{decimal}
 use Rattle.c_tree.specs.declared.token.Token.{Token}
+use Rattle.c_tree.specs.declared.ty.Ty.{Ty}
 use Rattle.c_tree.specs.declared.ty.Ty.TheVariants as ty
 use Rattle.c_tree.specs.declared.op.UnOp.{UnOp}
 use Rattle.c_tree.specs.declared.op.UnOp.TheVariants as un
 use Rattle.c_tree.specs.declared.op.BinOp.{BinOp}
 use Rattle.c_tree.specs.declared.op.BinOp.TheVariants as bin
+use Rattle.c_tree.specs.declared.program.Expr.{Expr}
 use Rattle.c_tree.specs.declared.program.ExprKind.TheVariants as e
 use Rattle.c_tree.specs.declared.program.Stmt.{Stmt}
 use Rattle.c_tree.specs.declared.program.StmtKind.TheVariants as s
@@ -39,19 +41,21 @@ use Rattle.c_grammar.specs.Marks.{keeps, opens, counts}
 use Rattle.c_grammar.specs.Tokens.{kind_of, map_kind_of, text_of, number_of, natural}
 use Rattle.c_grammar.specs.Values.{second, third, fourth, fifth, sixth, seventh, node, operand, statement, no_program, no_mapping, word_in, ty_in, operand_in, exprs_in, maybe_expr_in, stmt_in, stmts_in, maybe_stmt_in, fields_in, count_in, const_in, define_in, program_in, pt_in, fills_in, mapping_in}
 
--- the word or text, the number and the offset of a token
+-- the word or text of the newest value, a token
 abbrev pub text : List Value → List ℕ
 text vs = text_of (word_in vs).kind
 
+-- the offset in bytes of the newest value, a token
 abbrev pub at : List Value → ℕ
 at vs = (word_in vs).at
 
--- which operator a sign is
+-- the prefix operator that a sign is
 abbrev pub unary_of : Kind → UnOp
 unary_of kind.Bang = un.Not
 unary_of kind.Tilde = un.Flip
 unary_of _ = un.Neg
 
+-- the binary operator that a sign is
 abbrev pub binary_of : Kind → BinOp
 binary_of kind.Slash = bin.Div
 binary_of kind.Percent = bin.Rem
@@ -86,11 +90,12 @@ assigned_of kind.ShiftLeftEqual = Some bin.Shl
 assigned_of kind.ShiftRightEqual = Some bin.Shr
 assigned_of _ = None
 
--- an assignment of an operand that is made one more or one less, by the sign's kind
+-- the operator by which `++` and `--` change an operand
 abbrev pub stepped_of : Kind → BinOp
 stepped_of kind.MinusMinus = bin.Sub
 stepped_of _ = bin.Add
 
+-- an assignment of an operand that is made one more or one less, by its sign
 abbrev pub stepped : ℕ → Operand → Token → Stmt
 stepped begin x sign = statement begin (s.Assign x.expr (Some (stepped_of (kind_of sign.kind))) (node sign.at (e.Num (pos 1))))
 
@@ -102,6 +107,10 @@ named vs = record { at = at vs; it = text vs }
 abbrev pub field : List Value → Field
 field vs = record { name = named vs; ty = ty_in (second vs) }
 
+-- the declaration of a local, which stands at its name
+abbrev pub declared : Ty → Token → Option Expr → Stmt
+declared ty name start = statement name.at (s.Declare ty (text_of name.kind) start)
+
 -- a global of the type and the name that are newest
 abbrev pub global : List Value → Option (At Count) → Option (At Const) → GlobalDecl
 global vs count init = record { name = named vs; ty = ty_in (second vs); count = count; init = init }
@@ -110,29 +119,34 @@ global vs count init = record { name = named vs; ty = ty_in (second vs); count =
 abbrev pub function : List Value → Option (List Stmt) → Function
 function vs body = record { name = named (second vs); ret = ty_in (third vs); params = fields_in vs; body = body }
 
--- The program with one more of its parts.
+-- the program with one more struct
 abbrev pub with_struct : Program → Struct → Program
 with_struct p x = record p { structs = p.structs ++ x ∷ [] }
 
+-- the program with one more global
 abbrev pub with_global : Program → GlobalDecl → Program
 with_global p x = record p { globals = p.globals ++ x ∷ [] }
 
+-- the program with one more mutex
 abbrev pub with_mutex : Program → At (List ℕ) → Program
 with_mutex p x = record p { mutexes = p.mutexes ++ x ∷ [] }
 
+-- the program with one more define
 abbrev pub with_define : Program → Define → Program
 with_define p x = record p { defines = p.defines ++ x ∷ [] }
 
+-- the program with one more function
 abbrev pub with_function : Program → Function → Program
 with_function p x = record p { functions = p.functions ++ x ∷ [] }
 
--- Which side a match is of, and which kind of place a point is.
+-- what a match is of: 0 functions, 1 structs, 2 globals, 3 mutexes
 abbrev pub side_of : Kind → ℕ
 side_of kind.Struct = 1
 side_of kind.GlobalWord = 2
 side_of kind.MutexWord = 3
 side_of _ = 0
 
+-- the kind of place that a point of this word is
 abbrev pub place_of : Kind → PlaceKind
 place_of kind.LoopWord = place.LoopEnd
 place_of kind.CallWord = place.Call
@@ -142,10 +156,11 @@ place_of _ = place.Block
 abbrev pub meaning : List Value → Kind
 meaning vs = map_kind_of (word_in vs).kind
 
--- the number that is newest, and a name that ends in it
+-- the number of the newest value, a token
 abbrev pub number : List Value → ℕ
 number vs = natural (number_of (word_in vs).kind)
 
+-- a name that ends in a dot and this number
 abbrev pub numbered : List ℕ → ℕ → List ℕ
 numbered name n = name ++ (codes "." ++ decimal n)
 
@@ -222,7 +237,7 @@ value_effect action.AnyType vs = value.Ty ty.AnyPtr ∷ vs
 value_effect action.PtrType vs = value.Ty (ty.Ptr (text vs)) ∷ second vs
 value_effect action.DeclItem vs =
     value.Ty (ty_in (third vs))
-    ∷ value.Stmts (stmts_in (fourth vs) ++ statement (at (second vs)) (s.Declare (ty_in (third vs)) (text (second vs)) (maybe_expr_in vs)) ∷ [])
+    ∷ value.Stmts (stmts_in (fourth vs) ++ declared (ty_in (third vs)) (word_in (second vs)) (maybe_expr_in vs) ∷ [])
     ∷ fifth vs
 value_effect action.EndDecl vs = second vs
 value_effect action.NoFields vs = value.Fields [] ∷ vs
@@ -270,6 +285,10 @@ value_effect action.TempName vs = value.Word (renamed (word_in vs) (numbered [] 
 value_effect action.Leave vs = vs
 value_effect action.Outer vs = vs
 
+-- an action turns values, the newest last, into what its definition makes of them
+abbrev pub Does : Action → List Value → List Value → Type 0
+Does a before after = reverse after ≡ value_effect a (reverse before)
+
 -- What was read, the newest in front; how many constructs are open; and how many operators the expression has so far.
 pub record State : Type 0 where
   pub values : List Value
@@ -286,6 +305,7 @@ abbrev pub is_outer : Action → Bool
 is_outer action.Outer = true
 is_outer _ = false
 
+-- the state after an action: its values, how many constructs are open, and the operators counted
 abbrev pub effect : Action → State → State
 effect a state = record {
   values = value_effect a state.values;
@@ -301,5 +321,6 @@ with_token mark v state = record {
   operators = state.operators + cond (counts mark) 1 0;
 }
 
+-- the state before the first token
 abbrev pub empty : State
 empty = record { values = []; depth = 0; operators = 0 }

@@ -17,6 +17,7 @@ pub record Piece : Type 0 where
   pub at : ℕ
   pub value : Value
 
+-- a token of a source
 abbrev pub token_piece : Token → Piece
 token_piece t = record { kind = kind_of t.kind; at = t.at; value = value.Word t }
 
@@ -35,5 +36,6 @@ piece_of lexeme.Include at len = include at
 piece_of (lexeme.Define d) at len = record { kind = kind.Define; at = at; value = value.Define d }
 piece_of lexeme.Begun at len = include at
 
+-- a lexeme of a source as the grammar sees it
 abbrev pub lexeme_piece : Lexeme → Piece
 lexeme_piece l = piece_of l.kind l.at l.len

@@ -28,6 +28,7 @@ pub data Test : Type 0 where
   Within : ℕ → Test
   Over : ℕ → Test
 
+-- a state passes a test
 abbrev pub Passes : Test → State → Type 0
 Passes Any state = Unit {0}
 Passes (Within limit) state = state.depth ≤ limit
@@ -44,6 +45,7 @@ abbrev pub Accepts : Aim → State → Type 0
 Accepts (Part test) state = Passes test state
 Accepts (Whole values) state = ⊥
 
+-- the next token isn't of this kind, or there is none
 abbrev pub NextIsNot : Kind → List Piece → Type 0
 NextIsNot kind [] = Unit {0}
 NextIsNot kind (p ∷ ps) = p.kind ≡ kind → ⊥

@@ -9,6 +9,7 @@ use Rattle.c_grammar.specs.declared.symbol.Symbol.{Symbol}
 use Rattle.c_grammar.specs.declared.symbol.Symbol.TheVariants.{Take, Unless, Act, Expand}
 use Rattle.c_grammar.specs.declared.symbol.Mark.TheVariants.{Skip, Keep, Open, OpenKeep, Count, CountKeep}
 
+-- the alternatives of each rule, of which a text of the rule follows one
 abbrev pub alternatives : Rule → List (List Symbol)
 -- Items [Program -> Program] = Item Items |
 alternatives rule.Items =
@@ -703,12 +704,14 @@ alternatives rule.NameTail =
     ∷ (Act action.NameExpr ∷ [])
     ∷ []
 
--- What a whole text is: a source, an expression of a mapping, or a mapping.
+-- what a whole source is
 abbrev pub start : List Symbol
 start = Act action.StartProgram ∷ Expand rule.Items ∷ []
 
+-- what a whole expression of a mapping is
 abbrev pub expr_start : List Symbol
 expr_start = Expand rule.MapExpr ∷ []
 
+-- what a whole mapping is
 abbrev pub map_start : List Symbol
 map_start = Act action.StartMapping ∷ Expand rule.Entries ∷ []

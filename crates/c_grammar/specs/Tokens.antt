@@ -12,6 +12,7 @@ abbrev pub kind_in : List Entry → List ℕ → Kind
 kind_in [] word = kind.Name
 kind_in (entry ∷ entries) word = if bytes_eq entry.text word then entry.kind else kind_in entries word
 
+-- the kind of a word in a source
 unfoldable pub word_kind : List ℕ → Kind
 word_kind word = kind_in words word
 
@@ -20,12 +21,15 @@ abbrev pub meant_or : Kind → List ℕ → Kind
 meant_or kind.Name word = word_kind word
 meant_or k word = k
 
+-- the kind of a word in a mapping
 unfoldable pub map_word_kind : List ℕ → Kind
 map_word_kind word = meant_or (kind_in map_words word) word
 
+-- the kind of the sign of a number
 abbrev pub sign_kind : ℕ → Kind
 sign_kind place = unwrap_or (slice_get signs place) kind.Other
 
+-- the kind of a token of a source
 abbrev pub kind_of : TokenKind → Kind
 kind_of (token.Word word) = word_kind word
 kind_of (token.Number number) = kind.Number

@@ -14,7 +14,8 @@ pub fn a_mapping_has_one_answer()
     ensures { OneMapAnswer }
 {}
 
-/// That the words that are no names, and those that are left out, are the same to the grammar as to the tokens.
+/// That the words that are no names, and those that are left out, are the same to the grammar as
+/// to the tokens.
 pub fn words_are_those_of_the_tokens()
     ensures { SameWords }
 {}

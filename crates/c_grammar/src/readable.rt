@@ -16,10 +16,11 @@ pub trait Readable {
 
     ghost piece: { Self → Piece };
 
+    /// What it is to the grammar.
     fn kind(&self) -> Kind
         ensures { result ≡ (piece self.now).kind };
 
-    /// The offset of its first byte.
+    /// The offset in bytes of its first byte.
     fn at(&self) -> u32
         ensures { result ≡ (piece self.now).at };
 
@@ -45,7 +46,7 @@ impl Readable for Token {
 }
 
 /// A token of a mapping, where more words have a meaning.
-#[derive(Debug, Drop)]
+#[derive(Drop)]
 pub struct MapToken {
     pub token: Token,
 }

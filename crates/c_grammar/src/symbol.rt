@@ -7,8 +7,9 @@ use crate::action::Action;
 use crate::kind::Kind;
 use crate::rule::Rule;
 
-/// What a token does that is taken.
-#[derive(Clone, Copy, PartialEq, Eq)]
+/// What a token does that is taken: it is kept or let go, what follows it stands one deeper or as
+/// deep, and it counts as an operator or not.
+#[derive(Clone, Copy)]
 pub enum Mark {
     /// It is let go.
     Skip,
@@ -16,13 +17,16 @@ pub enum Mark {
     Keep,
     /// What follows it stands one deeper.
     Open,
+    /// It is kept, and what follows it stands one deeper.
     OpenKeep,
-    /// It is an operator, of which an expression has only so many.
+    /// It is an operator, of which an expression has at most 1000.
     Count,
+    /// It is kept, and is an operator.
     CountKeep,
 }
 
 impl Mark {
+    /// Whether the token is kept as a value.
     pub fn keeps(self) -> bool
         ensures { result ≡ spec.keeps self }
     {
@@ -32,6 +36,7 @@ impl Mark {
         }
     }
 
+    /// Whether what follows the token stands one deeper.
     pub fn opens(self) -> bool
         ensures { result ≡ spec.opens self }
     {
@@ -41,6 +46,7 @@ impl Mark {
         }
     }
 
+    /// Whether the token counts as an operator.
     pub fn counts(self) -> bool
         ensures { result ≡ spec.counts self }
     {
@@ -52,7 +58,7 @@ impl Mark {
 }
 
 /// A symbol to come.
-#[derive(Clone, Copy, PartialEq, Eq)]
+#[derive(Clone, Copy)]
 pub enum Symbol {
     /// A token of this kind.
     Take(Kind, Mark),

@@ -10,7 +10,8 @@ use std::alloc::{AllocError, Global};
 
 /// The kind of the word in the list, or of a name.
 fn kind_in(words: &[(&[u8], Kind)], word: &[u8]) -> Kind
-    ensures { result ≡ spec.kind_in (map (λ w. record { text = w.0.now; kind = w.1 }) words.now) word.now }
+    ensures { let entries = map (λ w. record { text = w.0.now; kind = w.1 }) words.now
+        in result ≡ spec.kind_in entries word.now }
 {
     for entry in words {
         if entry.0 == word {
@@ -20,6 +21,7 @@ fn kind_in(words: &[(&[u8], Kind)], word: &[u8]) -> Kind
     Kind::Name
 }
 
+/// The kind of a word in a source: one of the language's words, or a name.
 #[tactic(auto, unfolding(crate::specs::Tokens::word_kind))]
 fn word_kind(word: &Name) -> Kind
     ensures { result ≡ spec.word_kind word.now }
@@ -38,6 +40,7 @@ fn map_word_kind(word: &Name) -> Kind
     }
 }
 
+/// The kind of a sign by its number, 0 to 44.
 fn sign_kind(place: u8) -> Kind
     ensures { result ≡ spec.sign_kind place }
 {
@@ -72,6 +75,7 @@ pub fn map_kind_of(token: &TokenKind) -> Kind
     }
 }
 
+/// An equal kind of token, with the same word, number or text.
 pub fn copy_kind(token: &TokenKind) -> Result<TokenKind, AllocError>
     ensures { IfOk result (λ t. t ≡ token.now) }
 {
@@ -95,7 +99,7 @@ pub fn copy_token(token: &Token) -> Result<Token, AllocError>
     })
 }
 
-/// The token's word or text, where it has one.
+/// The token's word, or the text of its string literal; without bytes where it has none.
 pub fn text_of(alloc: Global, token: TokenKind) -> Text
     ensures { result ≡ spec.text_of token }
 {
@@ -108,7 +112,7 @@ pub fn text_of(alloc: Global, token: TokenKind) -> Text
     }
 }
 
-/// The token's number or code, where it has one.
+/// The token's number, or the code of its character constant; 0 where it has none.
 pub fn number_of(token: &TokenKind) -> i32
     ensures { result ≡ spec.number_of token.now }
 {

@@ -4,7 +4,8 @@ use c_tree::{
     At, Boxed, Const, Count, Define, Expr, Field, Fill, Mapping, Program, Pt, Row, Stmt, Token, Ty,
 };
 
-/// An expression, with the offset of the first token that was read for it: of a bracket round it, too.
+/// An expression, with the offset in bytes of the first token that was read for it: of a bracket
+/// round it, too.
 #[derive(Drop)]
 pub struct Operand {
     pub expr: Expr,
@@ -14,20 +15,30 @@ pub struct Operand {
 /// What was read: a token that was kept, or a part of a tree.
 #[derive(Drop)]
 pub enum Value {
+    /// A token that was kept.
     Word(Token),
     Ty(Ty),
     Operand(Operand),
+    /// The arguments of a call.
     Exprs(Row<Expr>),
+    /// An expression that may be left out.
     MaybeExpr(Option<Expr>),
     Stmt(Boxed<Stmt>),
+    /// The statements of a block, or the first part of a `for`.
     Stmts(Row<Stmt>),
+    /// A statement that may be left out: the step of a `for`.
     MaybeStmt(Option<Boxed<Stmt>>),
+    /// The fields of a struct, or the parameters of a function.
     Fields(Row<Field>),
+    /// The length of an array.
     Count(At<Count>),
+    /// The initialiser of a global.
     Const(At<Const>),
     Define(Define),
     Program(Program),
+    /// A point of a mapping.
     Pt(Pt),
+    /// What the new slots of a point are filled with.
     Fills(Row<Fill>),
     Mapping(Mapping),
 }

@@ -26,9 +26,8 @@ pub field_in_struct : (o : Option Struct) (name : List ℕ) → find (λ f. is_s
 field_in_struct None name = refl
 field_in_struct (Some d) name = refl
 
--- the type of a field of the struct that a type points to
-pub member_told : (sc : Scope) (t : Option Ty) (f : Ty) (owner name : List ℕ) (fields : List Field) (r : Option Ty) → t ≡ Some f → f ≡ ty.Ptr owner →
-    fields ≡ fields_of (struct_named sc owner) → r ≡ type_of_field (find (λ f. is_same_name f.name.it name) fields) → r ≡ member_type sc t name
-member_told sc t f owner name fields r is points same told =
-    told ∙ (ap (λ xs. type_of_field (find (λ f. is_same_name f.name.it name) xs)) same
-    ∙ (ap type_of_field (field_in_struct (struct_named sc owner) name) ∙ ap (λ o. member_type sc o name) (ap Some (sym points) ∙ sym is)))
+-- the type of a field of a struct that is pointed to
+pub member_told : (sc : Scope) (owner name : List ℕ) (fields : List Field) (r : Option Ty) →
+    fields ≡ fields_of (struct_named sc owner) → r ≡ type_of_field (find (λ f. is_same_name f.name.it name) fields) → r ≡ member_type sc (Some (ty.Ptr owner)) name
+member_told sc owner name fields r same told =
+    told ∙ (ap (λ xs. type_of_field (find (λ f. is_same_name f.name.it name) xs)) same ∙ ap type_of_field (field_in_struct (struct_named sc owner) name))

@@ -34,6 +34,12 @@ pub slots_twice : (old mid new : List Ty) (xs ys all : List Variable) → all �
 slots_twice old mid new xs ys all is one two =
     two ∙ (ap (λ us. us ++ types_of ys) one ∙ (append_assoc old (types_of xs) (types_of ys) ∙ ap (λ us. old ++ us) (sym (ap types_of is ∙ types-append xs ys))))
 
+-- the lifting of a statement of a form
+pub lifts_as : {w : Setting} {at : ℕ} {kind : StmtKind} {old new : Locals} {made new_made : List Ty} {body new_body : List LStmt} (form : StmtKind) →
+    kind ≡ form → Lifts w at form old made body new new_made new_body → Lifts w at kind old made body new new_made new_body
+lifts_as {w = w} {at = at} {old = old} {new = new} {made = made} {new_made = new_made} {body = body} {new_body = new_body} form is lifts =
+    subst (λ k. Lifts w at k old made body new new_made new_body) (sym is) lifts
+
 pub lifts_block : {w : Setting} {old mid new : Locals} {kind : StmtKind} {made new_made : List Ty} {body new_body : List LStmt} (at : ℕ) (xs : List Stmt) →
     kind ≡ s.Block xs → LiftsAll w xs old made body mid new_made new_body →
     new.names.items ≡ take (length old.names.items) mid.names.items → new.slots.items ≡ mid.slots.items → Lifts w at kind old made body new new_made new_body

@@ -1,5 +1,3 @@
-pub mod NameLemmas
-pub mod NumberLemmas
 pub mod NameNumberLemmas
 pub mod VariableLemmas
 pub mod PlaceLemmas
@@ -10,18 +8,4 @@ pub mod OutcomeLemmas
 pub mod TakeLemmas
 pub mod HasCallLemmas
 pub mod BuildLemmas
-pub mod SortLemmas
-pub mod NoFaults
-pub mod LimitLemmas
-pub mod ApartLemmas
-pub mod NamesLemmas
-pub mod FormedLemmas
-pub mod KeptLemmas
-pub mod SlotLemmas
-pub mod ValueSorts
-pub mod CallSorts
-pub mod ExprSorts
-pub mod StoreSorts
-pub mod StmtSorts
-pub mod FormSorts
 pub mod FunctionLemmas

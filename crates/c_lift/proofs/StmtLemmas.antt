@@ -157,7 +157,7 @@ pub standing_after : (w : Setting) (old new : Locals) (at : ℕ) (kind : StmtKin
     new.names.items ≡ old.names.items ++ declared_here (length old.slots.items) at kind → new.slots.items ≡ old.slots.items ++ types_of (locals kind) →
     standing w new ≡ at_scope (standing w old) (after (standing w old).scope at kind)
 standing_after w old new at kind known kept =
-    ap (at_scope (standing w old)) (scope_after w.file.now.program.now old.names.items new.names.items old.slots.items new.slots.items at kind known kept)
+    ap (at_scope (standing w old)) (scope_after w.file.now old.names.items new.names.items old.slots.items new.slots.items at kind known kept)
 
 -- a statement that declares nothing
 pub lifts_plain : {w : Setting} {at : ℕ} {kind : StmtKind} {old : Locals} {made new_made : List Ty} {body new_body : List LStmt} (form : StmtKind) (L : Lift) →

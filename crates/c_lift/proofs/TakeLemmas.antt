@@ -22,6 +22,7 @@ use Rattle.c_tree.specs.Scope.{meaning, routine}
 use Rattle.c_tree.specs.Types.{type_of, name_type, element_type, member_type, result_type, is_zero}
 use Rattle.c_tree.specs.Typing.{parameters}
 use Rattle.c_tree.specs.Lifting.{Spot, Taken, AllTaken, take_calls, take_arguments, taken, with_value, with_zero, into_temporary, named, literal, array_number, field_in, has_call, is_lazy, is_equality, is_pointer_type, in_place, beside, fitted, fitted_first, joined, temporaries, deciding, destination, function_number, struct_number, mutex_number}
+use Rattle.lift_laws.proofs.ArgumentLemmas.{list-more, list-none}
 use Rattle.c_lift.specs.Taking.{Took, TookAll, take_list, Operates, operated}
 
 -- what is taken from an expression of a form
@@ -284,17 +285,6 @@ took_temporary {w = w} {calls = calls} {made1 = made1} form before made' s s' ca
     (more ∙ ap (λ m. m ++ s ∷ []) all ∙ ap (λ u. made' ++ u ∷ []) kept)
 
 -- one argument more, and none
-pub list-more : (w : Spot) (made : List Ty) (qs : List Field) (x : Expr) (rest : List Expr) → take_list w made qs (x ∷ rest) ≡
-    (let a = take_calls w made x.kind in
-    let b = take_list w a.made (drop 1 qs) rest in
-    record { calls = a.calls ++ b.calls; values = fitted_first w.scope qs x.kind a.value ∷ b.values; made = b.made })
-unfolding literals take_calls take_arguments
-list-more w made qs x rest = refl
-
-pub list-none : (w : Spot) (made : List Ty) (qs : List Field) → take_list w made qs [] ≡ record { calls = []; values = []; made = made }
-unfolding literals take_calls take_arguments
-list-none w made qs = refl
-
 -- what was taken from the first arguments and what is taken from those that are left make the whole
 pub record Whole (w : Spot) (qs : List Field) (args : List Expr) (values : List LExpr) (calls : List LStmt) (made : List Ty) (vs : List LExpr) (cs : List LStmt) (ms : List Ty) : Type 0 where
   pub values_so : values ++ (take_list w made qs args).values ≡ vs

@@ -1,4 +1,3 @@
-pub mod Table
 pub mod Around
 pub mod Taking
 pub mod Adding
@@ -6,4 +5,3 @@ pub mod Lifts
 pub mod Variables
 pub mod Places
 pub mod Refusal
-pub mod Laws

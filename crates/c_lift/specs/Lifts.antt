@@ -16,6 +16,7 @@ use Rattle.c_lift.specs.declared.spot.Locals.{Locals}
 use Rattle.c_lift.specs.Around.{standing}
 use Rattle.c_lift.specs.Adding.{Adds}
 
+-- the types of some variables
 abbrev pub types_of : List Variable → List Ty
 types_of xs = map (λ x. x.ty) xs
 
@@ -24,6 +25,8 @@ abbrev pub declared_here : ℕ → ℕ → StmtKind → List Named
 declared_here n at (s.Declare t name value) = record { at = at; name = name; meaning = m.Local n } ∷ []
 declared_here n at _ = []
 
+-- a statement is lifted: its statements and temporaries are added to those before it,
+-- its locals have their slots, and the names that it declares are there
 pub record Lifts (w : Setting) (at : ℕ) (kind : StmtKind) (old : Locals) (made : List Ty) (body : List LStmt) (new : Locals) (new_made : List Ty) (new_body : List LStmt) : Type 0 where
   pub adds : Adds (lift_stmt (standing w old) made at kind) body new_body new_made
   pub slots_so : new.slots.items ≡ old.slots.items ++ types_of (locals kind)
@@ -33,12 +36,16 @@ pub record Lifts (w : Setting) (at : ℕ) (kind : StmtKind) (old : Locals) (made
 abbrev pub lift_list : Spot → List Ty → List Stmt → Lift
 lift_list w made xs = lift_all w made (row_of xs)
 
+-- the locals that some statements declare
 abbrev pub locals_list : List Stmt → List Variable
 locals_list xs = locals_of (row_of xs)
 
+-- where the statement behind some statements stands
 abbrev pub after_list : Scope → List Stmt → Scope
 after_list sc xs = after_all sc (row_of xs)
 
+-- some statements are lifted: what they add,
+-- and where the statement behind them stands
 pub record LiftsAll (w : Setting) (xs : List Stmt) (old : Locals) (made : List Ty) (body : List LStmt) (new : Locals) (new_made : List Ty) (new_body : List LStmt) : Type 0 where
   pub adds : Adds (lift_list (standing w old) made xs) body new_body new_made
   pub scope_so : (standing w new).scope ≡ after_list (standing w old).scope xs
@@ -51,10 +58,12 @@ abbrev pub lift_other : Spot → List Ty → Option Stmt → Lift
 lift_other w made None = lift_of [] made
 lift_other w made (Some x) = lift_stmt w made x.at x.kind
 
+-- the locals of a statement that may be absent
 abbrev pub locals_other : Option Stmt → List Variable
 locals_other None = []
 locals_other (Some x) = locals x.kind
 
+-- a statement that may be absent is lifted: what it adds
 pub record LiftsOther (w : Setting) (other : Option Stmt) (old : Locals) (made : List Ty) (body : List LStmt) (new : Locals) (new_made : List Ty) (new_body : List LStmt) : Type 0 where
   pub adds : Adds (lift_other (standing w old) made other) body new_body new_made
   pub slots_so : new.slots.items ≡ old.slots.items ++ types_of (locals_other other)
@@ -64,5 +73,5 @@ pub record LiftsOther (w : Setting) (other : Option Stmt) (old : Locals) (made :
 -- the body of a function
 abbrev pub body_lifted : Setting → Function → Lift
 body_lifted w f =
-    let v : Spot = record { scope = with_parameters (file_scope w.file.now.program.now) f.params; slots = w.base; ret = w.ret.now } in
+    let v : Spot = record { scope = with_parameters (file_scope w.file.now) f.params; slots = w.base; ret = w.ret.now } in
     lift_list v [] (body_of f.body)

@@ -24,6 +24,8 @@ pub record Took (w : Spot) (x : ExprKind) (calls : List LStmt) (made : List Ty) 
 abbrev pub take_list : Spot → List Ty → List Field → List Expr → AllTaken
 take_list w made qs args = take_arguments w made qs (args_of args)
 
+-- the calls of some arguments are taken out:
+-- their values are left, and their statements and temporaries are added
 pub record TookAll (w : Spot) (qs : List Field) (args : List Expr) (calls : List LStmt) (made : List Ty) (values : List LExpr) (new_calls : List LStmt) (new_made : List Ty) : Type 0 where
   pub left : values ≡ (take_list w made qs args).values
   pub added : new_calls ≡ calls ++ (take_list w made qs args).calls
@@ -35,6 +37,7 @@ operated w op a v s b u r None more calls =
     (l.Bin op (in_place (is_equality op && is_pointer_type r) (is_zero w.scope a) v) (in_place (is_equality op && is_pointer_type s) (is_zero w.scope b) u), calls ++ more)
 operated w op a v s b u r (Some k) more calls = (l.Slot k, calls ++ deciding op k v more u)
 
+-- an operator is put together: its value, its type and the statements of its sides
 pub record Operates (w : Spot) (op : BinOp) (a : ExprKind) (v : LExpr) (s : Option Ty) (b : ExprKind) (u : LExpr) (r : Option Ty) (slot : Option ℕ) (more calls : List LStmt)
     (value : LExpr) (type : Option Ty) (new_calls : List LStmt) : Type 0 where
   pub left : value ≡ (operated w op a v s b u r slot more calls).0

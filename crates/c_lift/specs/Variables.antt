@@ -7,16 +7,19 @@ use Rattle.c_tree.specs.Scope.{Variable, is_same_name, locals}
 use Rattle.c_tree.specs.Lifting.{slot_name}
 use Rattle.c_lift.specs.Lifts.{locals_list, locals_other}
 
+-- a variable as a slot of its name and type
 abbrev pub as_slot : Variable → Slot
 as_slot x = record { name = x.name; ty = x.ty }
 
--- those that a statement declares
+-- the locals that a statement declares, as slots
 unfoldable pub slots_of : StmtKind → List Slot
 slots_of kind = map as_slot (locals kind)
 
+-- the locals that some statements declare, as slots
 unfoldable pub slots_list : List Stmt → List Slot
 slots_list xs = map as_slot (locals_list xs)
 
+-- the locals of a statement that may be absent, as slots
 unfoldable pub slots_other : Option Stmt → List Slot
 slots_other other = map as_slot (locals_other other)
 

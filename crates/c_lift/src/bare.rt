@@ -5,6 +5,7 @@ ghost use Rattle.c_tree.specs.Lifting as lifting;
 
 use c_tree::{Expr, ExprKind};
 
+/// The expression that the outermost casts are of.
 #[tactic(auto, using(crate::proofs::BareLemmas::bare_rules))]
 pub fn bare(x: &Expr) -> &Expr
     ensures { result.now.kind ≡ lifting.bare x.now.kind }

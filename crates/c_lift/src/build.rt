@@ -7,24 +7,29 @@ ghost use Rattle.c_tree.specs.declared.lifted.LExpr as l;
 use c_tree::{BinOp, Boxed, Dest, LExpr, Meaning, Program, UnOp};
 use std::alloc::{AllocError, Global};
 
+/// An operator before an expression.
 pub fn un(alloc: Global, op: UnOp, x: LExpr) -> Result<LExpr, AllocError>
     ensures { IfOk result (λ v. v ≡ l.Un op x) }
 {
     Ok(LExpr::Un(op, Boxed::new(alloc, x)?))
 }
 
+/// An operator between two expressions.
 pub fn bin(alloc: Global, op: BinOp, x: LExpr, y: LExpr) -> Result<LExpr, AllocError>
     ensures { IfOk result (λ v. v ≡ l.Bin op x y) }
 {
     Ok(LExpr::Bin(op, Boxed::new(alloc, x)?, Boxed::new(alloc, y)?))
 }
 
+/// An element of an array, by the number of its global.
 pub fn elem(alloc: Global, array: u32, index: LExpr) -> Result<LExpr, AllocError>
     ensures { IfOk result (λ v. v ≡ l.Elem array index) }
 {
     Ok(LExpr::Elem(array, Boxed::new(alloc, index)?))
 }
 
+/// A field of the object that a pointer leads to, by the numbers of its struct and of the field in
+/// it.
 pub fn field(alloc: Global, base: LExpr, owner: u32, field: u32) -> Result<LExpr, AllocError>
     ensures { IfOk result (λ v. v ≡ l.Field base owner field) }
 {
@@ -75,12 +80,15 @@ pub fn goes_on(alloc: Global, op: BinOp, slot: u32) -> Result<LExpr, AllocError>
     }
 }
 
+/// Whether the left side of an operator may decide alone, as of `&&` and `||` (ISO C11 6.5.13 and
+/// 6.5.14).
 pub fn is_lazy(op: BinOp) -> bool
     ensures { result ≡ lifting.is_lazy op }
 {
     matches!(op, BinOp::And | BinOp::Or)
 }
 
+/// Whether an operator is `==` or `!=`.
 pub fn is_equality(op: BinOp) -> bool
     ensures { result ≡ lifting.is_equality op }
 {
@@ -107,6 +115,7 @@ pub fn destination(value: LExpr) -> Dest
     }
 }
 
+/// The number of the global that a name stands for, and 0 where it stands for none.
 pub fn array_number(what: Meaning) -> u32
     ensures { result ≡ lifting.array_number what }
 {
@@ -116,6 +125,7 @@ pub fn array_number(what: Meaning) -> u32
     }
 }
 
+/// The number of the mutex that a name stands for, and 0 where it stands for none.
 pub fn mutex_number(what: Meaning) -> u32
     ensures { result ≡ lifting.mutex_number what }
 {

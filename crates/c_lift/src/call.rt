@@ -2,8 +2,9 @@
 
 ghost use Rattle.std.specs.Prelude.{◌≡◌, ◌+◌, ◌&&◌, [], ◌∷◌, ◌++◌, Some, None, List, if◌then◌else◌, pos, length, IfOk, OnOk};
 ghost use Rattle.c_tree.specs.Lifting as lifting;
+ghost use Rattle.c_tree.specs.declared.lifted.Dest.TheVariants as d;
 ghost use Rattle.c_tree.specs.declared.lifted.LExpr as l;
-ghost use Rattle.c_tree.specs.declared.lifted.LStmt.TheVariants as s;
+ghost use Rattle.c_tree.specs.declared.lifted.LStmt as s;
 ghost use Rattle.c_tree.specs.declared.program.ExprKind as e;
 ghost use Rattle.c_tree.specs.declared.ty.Ty.{Ty};
 ghost use Rattle.c_tree.specs.declared.ty.Ty.TheVariants as ty;
@@ -13,9 +14,8 @@ ghost use Rattle.c_lift.specs.Taking.{Took, Operates};
 use crate::build::{destination, goes_on, is_lazy, mutex_number, truth};
 use crate::has_call::has_call;
 use crate::spot::Spot;
-use crate::table::number;
 use crate::taken::{Taken, int, joined};
-use c_tree::{At, BinOp, Dest, Expr, Items, LExpr, LStmt, Name, Ty};
+use c_tree::{At, BinOp, Dest, Expr, Items, LExpr, LStmt, Name, Ty, narrowed};
 use std::alloc::{AllocError, Global};
 
 /// Whether the right side of an operator has calls that are made only if the left one lets them.
@@ -32,6 +32,7 @@ fn add_type(made: &mut Vec<Ty>, ty: Ty) -> Result<(), AllocError>
     Ok(())
 }
 
+/// Adds a statement.
 pub fn add_call(calls: &mut Vec<LStmt>, call: LStmt) -> Result<(), AllocError>
     ensures { OnOk result (calls.new.items ≡ calls.old.items ++ call ∷ []) }
 {
@@ -42,7 +43,7 @@ pub fn add_call(calls: &mut Vec<LStmt>, call: LStmt) -> Result<(), AllocError>
 fn slot_after(base: u32, count: usize) -> Result<u32, AllocError>
     ensures { IfOk result (λ k. k ≡ base + count) }
 {
-    let count = number(count)?;
+    let count = narrowed(count)?;
     base.checked_add(count).ok_or(AllocError)
 }
 
@@ -85,19 +86,70 @@ pub fn operator(
     right: &Expr,
     b: Taken,
     slot: Option<u32>,
-    mut more: Vec<LStmt>,
+    more: Vec<LStmt>,
     calls: &mut Vec<LStmt>,
 ) -> Result<Taken, AllocError>
     ensures { IfOk result (λ t. Operates (around at.now) op left.now.kind a.value a.ty
         right.now.kind b.value b.ty slot more.items calls.old.items t.value t.ty calls.new.items) }
 {
     match slot {
-        Some(slot) => decide(at.setting.alloc, op, slot, a, b, more, calls),
-        None => {
-            calls.append(&mut more)?;
-            joined(at, op, left, a, right, b)
+        Some(k) => {
+            decide(
+                at.setting.alloc,
+                op,
+                k,
+                a.into_value(),
+                b.into_value(),
+                more,
+                calls,
+            )
         }
+        None => both(at, op, left, a, right, b, more, calls),
     }
+}
+
+/// An operator of which both sides are made. More calls are those of the right side.
+fn both(
+    at: &Spot,
+    op: BinOp,
+    left: &Expr,
+    a: Taken,
+    right: &Expr,
+    b: Taken,
+    mut more: Vec<LStmt>,
+    calls: &mut Vec<LStmt>,
+) -> Result<Taken, AllocError>
+    ensures { IfOk result (λ t. Operates (around at.now) op left.now.kind a.value a.ty
+        right.now.kind b.value b.ty None more.items calls.old.items t.value t.ty calls.new.items) }
+{
+    let value = joined(at, op, left, a, right, b)?;
+    calls.append(&mut more)?;
+    Ok(value)
+}
+
+/// The truth of a value is stored in a slot.
+fn add_truth(alloc: Global, k: u32, value: LExpr, calls: &mut Vec<LStmt>) -> Result<(), AllocError>
+    ensures { OnOk result (calls.new.items
+        ≡ calls.old.items ++ s.Assign (d.Slot k) (lifting.truth value) ∷ []) }
+{
+    let value = truth(alloc, value)?;
+    add_call(calls, LStmt::Assign(Dest::Slot(k), value))
+}
+
+/// The calls of the right side of `&&` or `||` are made where the left side lets them.
+fn add_branch(
+    alloc: Global,
+    op: BinOp,
+    k: u32,
+    branch: Vec<LStmt>,
+    calls: &mut Vec<LStmt>,
+) -> Result<(), AllocError>
+    ensures { OnOk result (calls.new.items
+        ≡ calls.old.items ++ s.If (lifting.goes_on op k) branch.items [] ∷ []) }
+{
+    let test = goes_on(alloc, op, k)?;
+    let branch = LStmt::If(test, Items::from_vec(branch), Items::new(alloc));
+    add_call(calls, branch)
 }
 
 /// The statements of `&&` and `||` after those of the left side. The value is the slot's.
@@ -105,24 +157,18 @@ fn decide(
     alloc: Global,
     op: BinOp,
     k: u32,
-    left: Taken,
-    right: Taken,
+    left: LExpr,
+    right: LExpr,
     mut branch: Vec<LStmt>,
     calls: &mut Vec<LStmt>,
 ) -> Result<Taken, AllocError>
-    ensures calls { OnOk result (calls.new.items ≡ calls.old.items ++ lifting.deciding op k
-        left.value branch.items right.value) }
+    ensures calls { OnOk result (calls.new.items
+        ≡ calls.old.items ++ lifting.deciding op k left branch.items right) }
     ensures value { IfOk result (λ t. t ≡ record { value = l.Slot k; ty = Some ty.Int }) }
 {
-    let first = truth(alloc, left.into_value())?;
-    let second = truth(alloc, right.into_value())?;
-    let test = goes_on(alloc, op, k)?;
-    add_call(&mut branch, LStmt::Assign(Dest::Slot(k), second))?;
-    add_call(calls, LStmt::Assign(Dest::Slot(k), first))?;
-    add_call(
-        calls,
-        LStmt::If(test, Items::from_vec(branch), Items::new(alloc)),
-    )?;
+    add_truth(alloc, k, left, calls)?;
+    add_truth(alloc, k, right, &mut branch)?;
+    add_branch(alloc, op, k, branch, calls)?;
     Ok(int(LExpr::Slot(k)))
 }
 
@@ -167,6 +213,7 @@ fn with_zero(calls: &mut Vec<LStmt>, call: LStmt) -> Result<Taken, AllocError>
     Ok(int(LExpr::Num(0)))
 }
 
+/// The wait for a thread's end.
 pub fn join(thread: Taken, calls: &mut Vec<LStmt>) -> Result<Taken, AllocError>
     ensures calls { OnOk result (calls.new.items ≡ calls.old.items ++ s.Join thread.value ∷ []) }
     ensures value { IfOk result (λ t. t ≡ record { value = l.Num (pos 0); ty = Some ty.Int }) }
@@ -186,7 +233,7 @@ pub fn start(
 ) -> Result<Taken, AllocError>
     ensures calls { OnOk result (calls.new.items ≡ calls.old.items
         ++ s.Spawn (lifting.destination to.value)
-        (lifting.function_number at.now.setting.now.file.now.program.now name.now.it)
+        (lifting.function_number at.now.setting.now.file.now name.now.it)
         (lifting.fitted (around at.now).scope ty.AnyPtr arg.now.kind value.value) ∷ []) }
     ensures value { IfOk result (λ t. t ≡ record { value = l.Num (pos 0); ty = Some ty.Int }) }
 {
@@ -199,6 +246,7 @@ pub fn start(
     Ok(zero)
 }
 
+/// The lock of a mutex.
 pub fn lock(at: &Spot, name: &At<Name>, calls: &mut Vec<LStmt>) -> Result<Taken, AllocError>
     ensures { (made : List Ty) → IfOk result (λ t. Took (around at.now) (e.Lock name.now)
         calls.old.items made t.value t.ty calls.new.items made) }
@@ -207,6 +255,7 @@ pub fn lock(at: &Spot, name: &At<Name>, calls: &mut Vec<LStmt>) -> Result<Taken,
     Ok(zero)
 }
 
+/// The unlock of a mutex.
 pub fn unlock(at: &Spot, name: &At<Name>, calls: &mut Vec<LStmt>) -> Result<Taken, AllocError>
     ensures { (made : List Ty) → IfOk result (λ t. Took (around at.now) (e.Unlock name.now)
         calls.old.items made t.value t.ty calls.new.items made) }

@@ -5,16 +5,16 @@ ghost use Rattle.c_tree.specs.Lifting as lifting;
 ghost use Rattle.c_tree.specs.declared.lifted.LStmt as t;
 ghost use Rattle.c_tree.specs.declared.program.StmtKind.TheVariants as s;
 ghost use Rattle.c_tree.specs.declared.scope.Meaning.TheVariants as m;
-ghost use Rattle.c_lift.specs.Around.{around};
+ghost use Rattle.c_lift.specs.Around.{standing};
 ghost use Rattle.c_lift.specs.Lifts.{Lifts};
+ghost use Rattle.c_lift.specs.Taking.{Took};
 
 use crate::call::add_call;
 use crate::simple::start_value;
 use crate::spot::{Locals, Setting, Spot};
-use crate::table::number;
 use crate::take::take;
 use crate::taken::Taken;
-use c_tree::{Expr, Items, LExpr, LStmt, Meaning, Name, Named, Ty};
+use c_tree::{Expr, Items, LExpr, LStmt, Meaning, Name, Named, Ty, narrowed};
 use std::alloc::AllocError;
 
 /// The calls of a loop's test, and what is left of it.
@@ -59,7 +59,7 @@ pub fn add_local(at: u32, ty: &Ty, name: &Name, locals: &mut Locals) -> Result<u
     } ∷ []) }
     ensures slots { OnOk result (locals.new.slots.items ≡ locals.old.slots.items ++ ty.now ∷ []) }
 {
-    let slot = number(locals.slots.len())?;
+    let slot = narrowed(locals.slots.len())?;
     let named = Named {
         at,
         name: name.clone()?,
@@ -89,35 +89,63 @@ pub fn declare(
     Ok(())
 }
 
-/// The test of a loop.
-pub fn loop_test(test: &Expr, at: &Spot, made: &mut Vec<Ty>) -> Result<LoopTest, AllocError>
-    ensures calls { IfOk result (λ t. t.calls.items ≡ (lifting.take_calls (around at.now)
-        made.old.items test.now.kind).calls) }
-    ensures value { IfOk result (λ t. t.value ≡ (lifting.take_calls (around at.now)
-        made.old.items test.now.kind).value) }
-    ensures made { OnOk result (made.new.items ≡ (lifting.take_calls (around at.now)
-        made.old.items test.now.kind).made) }
+/// The test of a branch, of which the calls are added to those before.
+pub fn branch_test(
+    test: &Expr,
+    setting: &Setting,
+    locals: &Locals,
+    made: &mut Vec<Ty>,
+    body: &mut Vec<LStmt>,
+) -> Result<Taken, AllocError>
+    ensures { IfOk result (λ t. Took (standing setting.now locals.now) test.now.kind
+        body.old.items made.old.items t.value t.ty body.new.items made.new.items) }
 {
-    let mut calls = Vec::new(at.setting.alloc);
-    let value = take(test, at, &mut calls, made)?.into_value();
+    let taken = take(test, &Spot { setting, locals }, body, made)?;
+    Ok(taken)
+}
+
+/// The test of a loop.
+pub fn loop_test(
+    test: &Expr,
+    setting: &Setting,
+    locals: &Locals,
+    made: &mut Vec<Ty>,
+) -> Result<LoopTest, AllocError>
+    ensures calls { IfOk result (λ t. t.calls.items
+        ≡ (lifting.take_calls (standing setting.now locals.now) made.old.items
+        test.now.kind).calls) }
+    ensures value { IfOk result (λ t. t.value
+        ≡ (lifting.take_calls (standing setting.now locals.now) made.old.items
+        test.now.kind).value) }
+    ensures made { OnOk result (made.new.items
+        ≡ (lifting.take_calls (standing setting.now locals.now) made.old.items
+        test.now.kind).made) }
+{
+    let mut calls = Vec::new(setting.alloc);
+    let value = take(test, &Spot { setting, locals }, &mut calls, made)?.into_value();
     Ok(LoopTest { calls, value })
 }
 
 /// The test of a `for`. An absent one is the literal 1.
-pub fn for_test(test: &Option<Expr>, at: &Spot, made: &mut Vec<Ty>) -> Result<LoopTest, AllocError>
-    ensures calls { IfOk result (λ t. t.calls.items ≡ (lifting.take_test (around at.now)
-        made.old.items test.now).calls) }
-    ensures value { IfOk result (λ t. t.value ≡ (lifting.take_test (around at.now)
-        made.old.items test.now).value) }
-    ensures made { OnOk result (made.new.items ≡ (lifting.take_test (around at.now)
-        made.old.items test.now).made) }
+pub fn for_test(
+    test: &Option<Expr>,
+    setting: &Setting,
+    locals: &Locals,
+    made: &mut Vec<Ty>,
+) -> Result<LoopTest, AllocError>
+    ensures calls { IfOk result (λ t. t.calls.items
+        ≡ (lifting.take_test (standing setting.now locals.now) made.old.items test.now).calls) }
+    ensures value { IfOk result (λ t. t.value
+        ≡ (lifting.take_test (standing setting.now locals.now) made.old.items test.now).value) }
+    ensures made { OnOk result (made.new.items
+        ≡ (lifting.take_test (standing setting.now locals.now) made.old.items test.now).made) }
 {
     match test {
         None => Ok(LoopTest {
-            calls: Vec::new(at.setting.alloc),
+            calls: Vec::new(setting.alloc),
             value: LExpr::Num(1),
         }),
-        Some(test) => loop_test(test, at, made),
+        Some(test) => loop_test(test, setting, locals, made),
     }
 }
 

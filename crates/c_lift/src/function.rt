@@ -9,13 +9,12 @@ ghost use Rattle.c_lift.specs.Lifts.{body_lifted, lift_list};
 ghost use Rattle.c_lift.specs.Variables.{numbered_after};
 
 use crate::compound::add_local;
-use crate::file::File;
 use crate::names::{add_temporaries, numbered};
 use crate::spot::{Locals, Setting};
 use crate::stmt::lift_all;
-use crate::table::number;
 use crate::variables::variables;
-use c_tree::{Field, Function, LFunction, LStmt, Row, Slot, Stmt, Ty};
+use c_tree::{Field, Function, LFunction, LStmt, Row, Slot, Stmt, Ty, narrowed};
+use name_index::File;
 use std::alloc::{AllocError, Global};
 
 /// The parameters come into scope.
@@ -98,7 +97,7 @@ fn with_parts(
     Ok(LFunction {
         name: function.name.it.clone()?,
         ret: function.ret.clone()?,
-        params: number(function.params.len())?,
+        params: narrowed(function.params.len())?,
         slots: Row::from_vec(slots),
         body: Row::from_vec(body),
     })
@@ -110,13 +109,13 @@ pub fn lift_function(
     file: &File,
     function: &Function,
 ) -> Result<LFunction, AllocError>
-    ensures { IfOk result (λ g. g ≡ lifting.lift_function file.now.program.now function.now) }
+    ensures { IfOk result (λ g. g ≡ lifting.lift_function file.now function.now) }
 {
     let plain = variables(alloc, function)?;
     let setting = Setting {
         alloc,
         file,
-        base: number(plain.len())?,
+        base: narrowed(plain.len())?,
         ret: &function.ret,
     };
     let mut made = Vec::new(alloc);

@@ -6,10 +6,10 @@ ghost use Rattle.std.specs.Option.{option_copied};
 ghost use Rattle.c_tree.specs.Typing as typing;
 ghost use Rattle.c_tree.specs.Lifting as lifting;
 
-use crate::file::File;
 use c_tree::{
     At, Const, Count, Define, Field, GlobalDecl, LGlobal, LStruct, Name, Row, Slot, Struct,
 };
+use name_index::File;
 use std::alloc::{AllocError, Global};
 
 fn signed(minus: bool, n: i32) -> i32
@@ -44,17 +44,17 @@ fn named_length(define: Option<&Define>) -> u32
 }
 
 fn first_value(file: &File, value: &Const) -> i32
-    ensures { result ≡ lifting.first_value (spec.file_scope file.now.program.now) value.now }
+    ensures { result ≡ lifting.first_value (spec.file_scope file.now) value.now }
 {
     match value {
         Const::Number(minus, n) => signed(*minus, *n),
-        Const::Named(name) => value_of(file.define(name)),
+        Const::Named(name) => value_of(file.define(file.meaning(name))),
         Const::Null => 0,
     }
 }
 
 fn start_of(file: &File, init: &Option<At<Const>>) -> i32
-    ensures { result ≡ lifting.start_of (spec.file_scope file.now.program.now) init.now }
+    ensures { result ≡ lifting.start_of (spec.file_scope file.now) init.now }
 {
     match init {
         Some(init) => first_value(file, &init.it),
@@ -63,16 +63,16 @@ fn start_of(file: &File, init: &Option<At<Const>>) -> i32
 }
 
 fn length_of_array(file: &File, count: &Count) -> u32
-    ensures { result ≡ typing.length_of_array (spec.file_scope file.now.program.now) count.now }
+    ensures { result ≡ typing.length_of_array (spec.file_scope file.now) count.now }
 {
     match count {
         Count::Number(n) => magnitude(false, *n),
-        Count::Named(name) => named_length(file.define(name)),
+        Count::Named(name) => named_length(file.define(file.meaning(name))),
     }
 }
 
 fn array_length(file: &File, count: &Option<At<Count>>) -> Option<u32>
-    ensures { result ≡ lifting.array_length (spec.file_scope file.now.program.now) count.now }
+    ensures { result ≡ lifting.array_length (spec.file_scope file.now) count.now }
 {
     match count {
         Some(count) => Some(length_of_array(file, &count.it)),
@@ -81,7 +81,7 @@ fn array_length(file: &File, count: &Option<At<Count>>) -> Option<u32>
 }
 
 fn lift_global(file: &File, global: &GlobalDecl) -> Result<LGlobal, AllocError>
-    ensures { IfOk result (λ g. g ≡ lifting.lift_global (spec.file_scope file.now.program.now)
+    ensures { IfOk result (λ g. g ≡ lifting.lift_global (spec.file_scope file.now)
         global.now) }
 {
     Ok(LGlobal {
@@ -92,11 +92,12 @@ fn lift_global(file: &File, global: &GlobalDecl) -> Result<LGlobal, AllocError>
     })
 }
 
+/// The globals in their order, with their lengths and first values.
 pub fn lift_globals(alloc: Global, file: &File) -> Result<Row<LGlobal>, AllocError>
     ensures { IfOk result (λ r. r ≡ map (lifting.lift_global (spec.file_scope
-        file.now.program.now)) file.now.program.now.globals) }
+        file.now)) file.now.globals) }
 {
-    let globals = file.program.globals.as_slice();
+    let globals = file.program().globals.as_slice();
     let mut lifted = Vec::new(alloc);
     for global in globals {
         lifted.push(lift_global(file, global)?)?;
@@ -126,6 +127,7 @@ fn lift_struct(alloc: Global, each: &Struct) -> Result<LStruct, AllocError>
     })
 }
 
+/// The structs in their order, with the names and types of their fields.
 pub fn lift_structs(alloc: Global, structs: &[Struct]) -> Result<Row<LStruct>, AllocError>
     ensures { IfOk result (λ r. r ≡ map lifting.lift_struct structs.now) }
 {
@@ -136,6 +138,7 @@ pub fn lift_structs(alloc: Global, structs: &[Struct]) -> Result<Row<LStruct>, A
     Ok(Row::from_vec(lifted))
 }
 
+/// The names of the mutexes in their order.
 pub fn lift_mutexes(alloc: Global, mutexes: &[At<Name>]) -> Result<Row<Name>, AllocError>
     ensures { IfOk result (λ r. r ≡ map (λ m. m.it) mutexes.now) }
 {

@@ -11,6 +11,8 @@ fn either(a: bool, b: bool) -> bool
     a || b
 }
 
+/// Whether an expression makes a call: of a function, of `malloc` or `getchar`, or one on threads
+/// and mutexes.
 #[tactic(auto, using(crate::proofs::HasCallLemmas::has_call_rules))]
 pub fn has_call(x: &Expr) -> bool
     ensures { result ≡ lifting.has_call x.now.kind }

@@ -10,22 +10,16 @@ ghost use Rattle.c_tree.specs.Lifting as lifting;
 ghost use Rattle.c_tree.specs.declared.scope.Named.{Named};
 ghost use Rattle.c_lift.specs.Around.{scope_in};
 
-use crate::table::number;
-use c_tree::{Field, Function, Meaning, Name, Program, Ty};
+use c_tree::{Define, Field, Function, Meaning, Name, Program, Ty, narrowed};
 use std::alloc::AllocError;
 
-pub fn is_pointer(ty: &Ty) -> bool
-    ensures { result ≡ types.is_pointer ty.now }
-{
-    matches!(ty, Ty::AnyPtr | Ty::Ptr(_))
-}
-
+/// Whether a type can be told and is a pointer's.
 pub fn is_pointer_type(ty: &Option<Ty>) -> bool
     ensures { result ≡ lifting.is_pointer_type ty.now }
 {
     match ty {
         None => false,
-        Some(ty) => is_pointer(ty),
+        Some(ty) => ty.is_pointer(),
     }
 }
 
@@ -127,22 +121,20 @@ pub fn rest_of(params: &[Field]) -> &[Field]
     }
 }
 
+/// Whether a number is 0.
 pub fn is_zero_number(n: i32) -> bool
     ensures { result ≡ types.is_zero_number n }
 {
     n == 0
 }
 
-/// Whether a name is a define of the literal 0.
-pub fn is_zero_define(program: &Program, what: Meaning) -> bool
-    ensures { result ≡ types.is_zero_define (types.define program.now what) }
+/// Whether a define is of the literal 0.
+pub fn is_zero_define(define: Option<&Define>) -> bool
+    ensures { result ≡ types.is_zero_define (option_copied define.entry) }
 {
-    match what {
-        Meaning::Constant(i) => match program.defines.as_slice().get(i as usize) {
-            Some(define) => !define.minus && is_zero_number(define.value),
-            None => false,
-        },
-        _ => false,
+    match define {
+        Some(define) => !define.minus && is_zero_number(define.value),
+        None => false,
     }
 }
 
@@ -156,7 +148,7 @@ fn field_place(fields: &[Field], name: &Name) -> Option<usize>
 pub fn field_number(fields: &[Field], name: &Name) -> Result<u32, AllocError>
     ensures { IfOk result (λ n. n ≡ lifting.number_of (map (λ f. f.name) fields.now) name.now) }
 {
-    let n = number(field_place(fields, name).unwrap_or(0))?;
+    let n = narrowed(field_place(fields, name).unwrap_or(0))?;
     Ok(n)
 }
 

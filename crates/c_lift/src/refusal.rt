@@ -4,6 +4,7 @@ use c_tree::LimitKind;
 use std::alloc::AllocError;
 use thiserror::Error;
 
+/// The answer to a program that is not lifted.
 #[derive(Debug, Drop, Error)]
 pub enum LiftRefused {
     /// A function has more than 10,000 places or more than 128 slots. It is the first that has, and
@@ -11,6 +12,7 @@ pub enum LiftRefused {
     /// `Slots`.
     #[error("limit")]
     Limit(u32, LimitKind),
+    /// There was no memory for the lifting. Of the program nothing is said.
     #[error("memory")]
     Memory(AllocError),
 }

@@ -1,19 +1,19 @@
 //! Simple statements: assignments, calls, returns, `free` and `printf`.
 
-ghost use Rattle.std.specs.Prelude.{◌≡◌, OnOk};
+ghost use Rattle.std.specs.Prelude.{◌≡◌, unwrap_or, OnOk};
 ghost use Rattle.c_tree.specs.declared.program.ExprKind.TheBlock.{hidden-the_row-Expr-1 as args_of};
 ghost use Rattle.c_tree.specs.Lifting as lifting;
-ghost use Rattle.c_lift.specs.Around.{around};
-ghost use Rattle.c_lift.specs.Adding.{Adds, stored};
+ghost use Rattle.c_tree.specs.declared.ty.Ty.TheVariants as ty;
+ghost use Rattle.c_lift.specs.Around.{around, standing};
+ghost use Rattle.c_lift.specs.Adding.{Adds, stored, operated_into};
 
 use crate::bare::bare;
 use crate::build::{bin, destination};
 use crate::call::add_call;
 use crate::kind::{parameters, routine, type_or_int};
-use crate::spot::Spot;
+use crate::spot::{Locals, Setting, Spot};
 use crate::take::{take, take_arguments};
-use crate::taken::Taken;
-use c_tree::{BinOp, Dest, Expr, ExprKind, LStmt, Name, Row, Text, Ty};
+use c_tree::{BinOp, Dest, Expr, ExprKind, LExpr, LStmt, Name, Row, Text, Ty};
 use std::alloc::AllocError;
 
 /// A call with the slot of its result.
@@ -28,7 +28,7 @@ fn call_into(
     ensures { OnOk result (Adds (lifting.call_into (around at.now) made.old.items to name.now
         (args_of args.now)) body.old.items body.new.items made.new.items) }
 {
-    let callee = routine(at.setting.file.program, at.meaning(name));
+    let callee = routine(at.setting.file.program(), at.meaning(name));
     let values = take_arguments(args, parameters(callee), at, body, made)?;
     let function = at.setting.file.function_number(name);
     add_call(body, LStmt::Call(to, function, Row::from_vec(values)))
@@ -98,17 +98,60 @@ fn store_bare(
 }
 
 /// A call as a statement.
-pub fn run(x: &Expr, at: &Spot, body: &mut Vec<LStmt>, made: &mut Vec<Ty>) -> Result<(), AllocError>
-    ensures { OnOk result (Adds (lifting.run (around at.now) made.old.items x.now.kind)
-        body.old.items body.new.items made.new.items) }
+pub fn run(
+    x: &Expr,
+    setting: &Setting,
+    locals: &Locals,
+    body: &mut Vec<LStmt>,
+    made: &mut Vec<Ty>,
+) -> Result<(), AllocError>
+    ensures { OnOk result (Adds (lifting.run (standing setting.now locals.now) made.old.items
+        x.now.kind) body.old.items body.new.items made.new.items) }
 {
+    let at = Spot { setting, locals };
     match &x.kind {
-        ExprKind::Call(name, args) => call_into(None, name, args.as_slice(), at, body, made),
+        ExprKind::Call(name, args) => call_into(None, name, args.as_slice(), &at, body, made),
         _ => {
-            take(x, at, body, made)?;
+            take(x, &at, body, made)?;
             Ok(())
         }
     }
+}
+
+/// A value is stored where an expression without calls stands, which has this type.
+fn assign_value(
+    to: LExpr,
+    told: &Option<Ty>,
+    y: &Expr,
+    at: &Spot,
+    body: &mut Vec<LStmt>,
+    made: &mut Vec<Ty>,
+) -> Result<(), AllocError>
+    ensures { OnOk result (Adds (lifting.store (around at.now) made.old.items
+        (lifting.destination to) (unwrap_or told.now ty.Int) y.now.kind) body.old.items
+        body.new.items made.new.items) }
+{
+    let want = type_or_int(told)?;
+    store(y, destination(to), &want, at, body, made)
+}
+
+/// What an operator gives of an expression without calls and of a value is stored where the
+/// expression stands.
+fn assign_operated(
+    op: BinOp,
+    to: LExpr,
+    y: &Expr,
+    at: &Spot,
+    body: &mut Vec<LStmt>,
+    made: &mut Vec<Ty>,
+) -> Result<(), AllocError>
+    ensures { OnOk result (Adds (operated_into (around at.now) made.old.items op to y.now.kind)
+        body.old.items body.new.items made.new.items) }
+{
+    let value = take(y, at, body, made)?.into_value();
+    let old = to.copy(at.setting.alloc)?;
+    let value = bin(at.setting.alloc, op, old, value)?;
+    add_call(body, LStmt::Assign(destination(to), value))
 }
 
 /// `x = y`, or `x op= y`, of which the calls of x are made once and first.
@@ -116,29 +159,19 @@ pub fn assign(
     x: &Expr,
     op: Option<BinOp>,
     y: &Expr,
-    at: &Spot,
+    setting: &Setting,
+    locals: &Locals,
     body: &mut Vec<LStmt>,
     made: &mut Vec<Ty>,
 ) -> Result<(), AllocError>
-    ensures { OnOk result (Adds (lifting.assign (around at.now) made.old.items x.now op y.now)
-        body.old.items body.new.items made.new.items) }
+    ensures { OnOk result (Adds (lifting.assign (standing setting.now locals.now) made.old.items
+        x.now op y.now) body.old.items body.new.items made.new.items) }
 {
-    let Taken { value: to, ty } = take(x, at, body, made)?;
+    let at = Spot { setting, locals };
+    let (to, ty) = take(x, &at, body, made)?.into_parts();
     match op {
-        None => {
-            let want = type_or_int(&ty)?;
-            store(y, destination(to), &want, at, body, made)
-        }
-        Some(op) => {
-            let value = take(y, at, body, made)?;
-            let value = bin(
-                at.setting.alloc,
-                op,
-                to.copy(at.setting.alloc)?,
-                value.into_value(),
-            )?;
-            add_call(body, LStmt::Assign(destination(to), value))
-        }
+        None => assign_value(to, &ty, y, &at, body, made),
+        Some(op) => assign_operated(op, to, y, &at, body, made),
     }
 }
 
@@ -160,49 +193,58 @@ pub fn start_value(
     }
 }
 
+/// `return`, with a value or without.
 pub fn give_back(
     value: &Option<Expr>,
-    at: &Spot,
+    setting: &Setting,
+    locals: &Locals,
     body: &mut Vec<LStmt>,
     made: &mut Vec<Ty>,
 ) -> Result<(), AllocError>
-    ensures { OnOk result (Adds (lifting.give_back (around at.now) made.old.items value.now)
-        body.old.items body.new.items made.new.items) }
+    ensures { OnOk result (Adds (lifting.give_back (standing setting.now locals.now) made.old.items
+        value.now) body.old.items body.new.items made.new.items) }
 {
+    let at = Spot { setting, locals };
     match value {
         None => add_call(body, LStmt::Return(None)),
         Some(x) => {
-            let value = take(x, at, body, made)?;
+            let value = take(x, &at, body, made)?;
             let value = at.fitted(at.setting.ret, x, value.into_value());
             add_call(body, LStmt::Return(Some(value)))
         }
     }
 }
 
+/// `free` of a value, after its calls.
 pub fn free(
     x: &Expr,
-    at: &Spot,
+    setting: &Setting,
+    locals: &Locals,
     body: &mut Vec<LStmt>,
     made: &mut Vec<Ty>,
 ) -> Result<(), AllocError>
-    ensures { OnOk result (Adds (lifting.freed (around at.now) made.old.items x.now)
-        body.old.items body.new.items made.new.items) }
+    ensures { OnOk result (Adds (lifting.freed (standing setting.now locals.now) made.old.items
+        x.now) body.old.items body.new.items made.new.items) }
 {
-    let value = take(x, at, body, made)?;
+    let at = Spot { setting, locals };
+    let value = take(x, &at, body, made)?;
     let value = at.fitted(&Ty::AnyPtr, x, value.into_value());
     add_call(body, LStmt::Free(value))
 }
 
+/// `printf`, after the calls of its arguments.
 pub fn print(
     text: &Text,
     args: &[Expr],
-    at: &Spot,
+    setting: &Setting,
+    locals: &Locals,
     body: &mut Vec<LStmt>,
     made: &mut Vec<Ty>,
 ) -> Result<(), AllocError>
-    ensures { OnOk result (Adds (lifting.printed (around at.now) made.old.items text.now
-        args.now) body.old.items body.new.items made.new.items) }
+    ensures { OnOk result (Adds (lifting.printed (standing setting.now locals.now) made.old.items
+        text.now args.now) body.old.items body.new.items made.new.items) }
 {
-    let values = take_arguments(args, &[], at, body, made)?;
+    let at = Spot { setting, locals };
+    let values = take_arguments(args, &[], &at, body, made)?;
     add_call(body, LStmt::Print(text.clone()?, Row::from_vec(values)))
 }

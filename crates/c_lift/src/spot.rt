@@ -5,13 +5,12 @@ ghost use Rattle.c_tree.specs.Scope as spec;
 ghost use Rattle.c_tree.specs.Types as types;
 ghost use Rattle.c_tree.specs.Lifting as lifting;
 ghost use Rattle.c_tree.specs.declared.scope.Named.{Named};
-ghost use Rattle.c_lift.specs.Table.{meaning_of};
+ghost use Rattle.name_index.specs.Meanings.{meaning_of};
 
 use crate::build::{in_place, is_equality};
-use crate::file::File;
-use crate::kind::{is_pointer, is_pointer_type, is_zero_define, is_zero_number};
-use crate::table::meaning_in;
+use crate::kind::{is_pointer_type, is_zero_define, is_zero_number};
 use c_tree::{BinOp, Expr, ExprKind, Field, LExpr, Meaning, Name, Named, Ty};
+use name_index::File;
 use std::alloc::Global;
 
 /// What all statements of a function stand in.
@@ -26,12 +25,17 @@ pub struct Setting<'a> {
 }
 
 /// The parameters and locals that a function has declared so far.
-#[derive(Drop)]
 pub struct Locals {
     /// Those in scope, the nearest last.
     pub names: Vec<Named>,
     /// The types of all.
     pub slots: Vec<Ty>,
+}
+
+impl Drop for Locals {
+    fn drop(self) {
+        let Locals { names: _, slots: _ } = self;
+    }
 }
 
 /// Where an expression stands.
@@ -50,7 +54,7 @@ impl Spot<'_> {
     {
         match nearest(self.locals, name) {
             Some(what) => what,
-            None => meaning_in(&self.setting.file.names, name),
+            None => self.setting.file.meaning(name),
         }
     }
 
@@ -60,7 +64,7 @@ impl Spot<'_> {
     {
         match &x.kind {
             ExprKind::Num(n) => is_zero_number(*n),
-            ExprKind::Name(name) => is_zero_define(self.setting.file.program, self.meaning(name)),
+            ExprKind::Name(name) => is_zero_define(self.setting.file.define(self.meaning(name))),
             _ => false,
         }
     }
@@ -69,7 +73,7 @@ impl Spot<'_> {
     pub fn fitted(&self, asked: &Ty, x: &Expr, value: LExpr) -> LExpr
         ensures { result ≡ lifting.fitted (around self.now).scope asked.now x.now.kind value }
     {
-        in_place(is_pointer(asked), self.is_zero(x), value)
+        in_place(asked.is_pointer(), self.is_zero(x), value)
     }
 
     /// An argument, as the first of the parameters asks for it.

@@ -1,18 +1,18 @@
 //! Statements are lifted.
 
-ghost use Rattle.std.specs.Prelude.{◌≡◌, [], IfOk, OnOk};
+ghost use Rattle.std.specs.Prelude.{◌≡◌, ℕ, [], IfOk, OnOk};
+ghost use Rattle.c_tree.specs.declared.program.StmtKind as s;
 ghost use Rattle.c_lift.specs.Adding.{Adds};
 ghost use Rattle.c_lift.specs.Around.{standing};
 ghost use Rattle.c_lift.specs.Lifts.{Lifts, LiftsAll, LiftsOther, lift_other};
 
 use crate::call::add_call;
 use crate::compound::{
-    add_if, add_loop, back_to, declare, for_test, leave, loop_test, scope_depth,
+    add_if, add_loop, back_to, branch_test, declare, for_test, leave, loop_test, scope_depth,
 };
 use crate::simple::{assign, free, give_back, print, run};
-use crate::spot::{Locals, Setting, Spot};
-use crate::take::take;
-use c_tree::{Boxed, LStmt, Stmt, StmtKind, Ty};
+use crate::spot::{Locals, Setting};
+use c_tree::{Boxed, Expr, LStmt, Stmt, StmtKind, Ty};
 use std::alloc::AllocError;
 
 /// The statement's lifting is added to a body, and the locals that it declares to those before.
@@ -30,52 +30,21 @@ pub fn lift_stmt(
     let names = scope_depth(locals);
     match &s.kind {
         StmtKind::Empty => Ok(()),
-        StmtKind::Block(inner) => {
-            lift_all(inner.as_slice(), setting, locals, made, body)?;
-            leave(locals, names);
-            Ok(())
-        }
+        StmtKind::Block(inner) => lift_block(inner.as_slice(), setting, locals, made, body),
         StmtKind::Declare(ty, name, value) => {
             declare(s.at, ty, name, value, setting, locals, made, body)
         }
         StmtKind::If(test, yes, no) => {
-            let test = take(
-                test,
-                &Spot {
-                    setting: &*setting,
-                    locals: &*locals,
-                },
-                body,
-                made,
-            )?;
+            let test = branch_test(test, setting, locals, made, body)?;
             let yes = lift_apart(yes.get(), setting, locals, made)?;
             let no = lift_other(no, setting, locals, made)?;
             leave(locals, names);
             add_if(test, yes, no, body)
         }
-        StmtKind::While(test, inner) => {
-            let test = loop_test(
-                test,
-                &Spot {
-                    setting: &*setting,
-                    locals: &*locals,
-                },
-                made,
-            )?;
-            let inner = lift_apart(inner.get(), setting, locals, made)?;
-            leave(locals, names);
-            add_loop(test, inner, Vec::new(setting.alloc), body)
-        }
+        StmtKind::While(test, inner) => lift_while(inner.get(), test, setting, locals, made, body),
         StmtKind::For(starts, test, step, inner) => {
             lift_all(starts.as_slice(), setting, locals, made, body)?;
-            let test = for_test(
-                test,
-                &Spot {
-                    setting: &*setting,
-                    locals: &*locals,
-                },
-                made,
-            )?;
+            let test = for_test(test, setting, locals, made)?;
             let step = lift_step(step, setting, locals, made)?;
             let inner = lift_apart(inner.get(), setting, locals, made)?;
             leave(locals, names);
@@ -83,60 +52,53 @@ pub fn lift_stmt(
         }
         StmtKind::Break => add_call(body, LStmt::Break),
         StmtKind::Continue => add_call(body, LStmt::Continue),
-        StmtKind::Return(value) => give_back(
-            value,
-            &Spot {
-                setting: &*setting,
-                locals: &*locals,
-            },
-            body,
-            made,
-        ),
-        StmtKind::Assign(x, op, y) => assign(
-            x,
-            *op,
-            y,
-            &Spot {
-                setting: &*setting,
-                locals: &*locals,
-            },
-            body,
-            made,
-        ),
-        StmtKind::Run(x) => run(
-            x,
-            &Spot {
-                setting: &*setting,
-                locals: &*locals,
-            },
-            body,
-            made,
-        ),
-        StmtKind::Free(x) => free(
-            x,
-            &Spot {
-                setting: &*setting,
-                locals: &*locals,
-            },
-            body,
-            made,
-        ),
-        StmtKind::Print(text, args) => {
-            print(
-                text,
-                args.as_slice(),
-                &Spot {
-                    setting: &*setting,
-                    locals: &*locals,
-                },
-                body,
-                made,
-            )
-        }
+        StmtKind::Return(value) => give_back(value, setting, locals, body, made),
+        StmtKind::Assign(x, op, y) => assign(x, *op, y, setting, locals, body, made),
+        StmtKind::Run(x) => run(x, setting, locals, body, made),
+        StmtKind::Free(x) => free(x, setting, locals, body, made),
+        StmtKind::Print(text, args) => { print(text, args.as_slice(), setting, locals, body, made) }
     }
 }
 
-/// A block, whose names stay in scope.
+/// A block, whose names go out of scope.
+#[cycle(lift)]
+fn lift_block(
+    inner: &[Stmt],
+    setting: &Setting,
+    locals: &mut Locals,
+    made: &mut Vec<Ty>,
+    body: &mut Vec<LStmt>,
+) -> Result<(), AllocError>
+    ensures { OnOk result ((at : ℕ) → Lifts setting.now at (s.Block inner.now) locals.old
+        made.old.items body.old.items locals.new made.new.items body.new.items) }
+{
+    let names = scope_depth(locals);
+    lift_all(inner, setting, locals, made, body)?;
+    leave(locals, names);
+    Ok(())
+}
+
+/// A `while`. The names of its body go out of scope.
+#[cycle(lift)]
+fn lift_while(
+    inner: &Stmt,
+    test: &Expr,
+    setting: &Setting,
+    locals: &mut Locals,
+    made: &mut Vec<Ty>,
+    body: &mut Vec<LStmt>,
+) -> Result<(), AllocError>
+    ensures { OnOk result ((at : ℕ) → Lifts setting.now at (s.While test.now inner.now) locals.old
+        made.old.items body.old.items locals.new made.new.items body.new.items) }
+{
+    let names = scope_depth(locals);
+    let test = loop_test(test, setting, locals, made)?;
+    let inner = lift_apart(inner, setting, locals, made)?;
+    leave(locals, names);
+    add_loop(test, inner, Vec::new(setting.alloc), body)
+}
+
+/// Several statements, whose names stay in scope.
 #[cycle(lift)]
 pub fn lift_all(
     stmts: &[Stmt],

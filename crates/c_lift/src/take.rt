@@ -11,8 +11,8 @@ use crate::call::{
 use crate::kind::{parameters, rest_of, result_type, routine, type_or_int};
 use crate::spot::Spot;
 use crate::taken::{
-    Taken, add_value, cast, element, end_of_file, literal_value, member, name_value, null_pointer,
-    unary, untold,
+    Taken, add_value, cast, element, end_of_file, literal_value, name_value, null_pointer, unary,
+    untold,
 };
 use c_tree::{Expr, ExprKind, Field, LExpr, LStmt, Name, Row, Ty};
 use std::alloc::AllocError;
@@ -35,7 +35,7 @@ pub fn take(
         ExprKind::Slot(_, _) => Ok(untold()),
         ExprKind::Name(name) => name_value(at, name),
         ExprKind::Index(name, index) => element(at, name, take(index.get(), at, calls, made)?),
-        ExprKind::Field(base, name) => member(at, take(base.get(), at, calls, made)?, name),
+        ExprKind::Field(base, name) => take(base.get(), at, calls, made)?.member(at, name),
         ExprKind::Un(op, operand) => unary(at, *op, take(operand.get(), at, calls, made)?),
         ExprKind::Bin(op, left, right) => {
             let (left, right) = (left.get(), right.get());
@@ -73,7 +73,7 @@ fn take_call(
     ensures { IfOk result (λ t. Took (around at.now) (e.Call name.now args.now) calls.old.items
         made.old.items t.value t.ty calls.new.items made.new.items) }
 {
-    let callee = routine(at.setting.file.program, at.meaning(name));
+    let callee = routine(at.setting.file.program(), at.meaning(name));
     let values = take_arguments(args, parameters(callee), at, calls, made)?;
     let ty = result_type(callee)?;
     let k = temporary(at.setting.base, made, type_or_int(&ty)?)?;

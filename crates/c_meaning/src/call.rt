@@ -15,6 +15,9 @@ use c_tree::start::fresh;
 use c_tree::{Act, Follow, LExpr, LStmt, Lifted, Places, State, Trap};
 use std::alloc::{AllocError, Global};
 
+/// Calls a function (ISO C11, 6.5.2.2): a frame for it, with the values of the arguments, goes onto
+/// thread `t`, whose caller keeps its place. It traps where an argument does, first to last, and
+/// where the thread has 10,000 frames.
 pub fn call(
     alloc: Global,
     program: &Lifted,
@@ -26,7 +29,8 @@ pub fn call(
     args: &[LExpr],
 ) -> Result<Stepped, AllocError>
     requires { IsTrue (spec.is_live state.old t) }
-    ensures ok { IfOk result (λ r. Leads r state.old state.new (spec.done (spec.turn program.now t state.old) n (stmt.Call to f args.now))) }
+    ensures ok { IfOk result (λ r. Leads r state.old state.new
+        (spec.done (spec.acting program.now t state.old) n (stmt.Call to f args.now))) }
     ensures err { OnErr result (state.new ≡ state.old) }
 {
     let values = match values_in(alloc, state, t, args)? {
@@ -41,10 +45,13 @@ pub fn call(
     Ok(Stepped::Done)
 }
 
+/// Returns `v` from the innermost frame of thread `t` (ISO C11, 6.8.6.4): its caller goes on behind
+/// the call, with `v` where the call stores its result. With no caller the thread ends.
 pub fn returned(program: &Lifted, places: &Places, state: &mut State, t: u32, v: i32) -> Stepped
     requires live { IsTrue (spec.is_live state.old t) }
     requires same { places.now.functions ≡ map layout.places program.now.functions }
-    ensures { Leads result state.old state.new (spec.returned (spec.turn program.now t state.old) v) }
+    ensures { Leads result state.old state.new
+        (spec.returned (spec.acting program.now t state.old) v) }
 {
     let frames = frames_at(state, t);
     if frames.len() == 1 {
@@ -67,8 +74,9 @@ fn resumed(
     v: i32,
 ) -> Stepped
     requires { 1 < length (spec.frames_at state.old t) }
-    ensures { let w = spec.turn program.now t state.old in
-        Leads result state.old state.new (spec.resumed w (spec.top_of (spec.outer_of w.frames)) act.now follow v) }
+    ensures { let w = spec.acting program.now t state.old in
+        Leads result state.old state.new
+        (spec.resumed w (spec.top_of (spec.outer_of w.frames)) act.now follow v) }
 {
     match act {
         Act::Do(LStmt::Call(to, _, _)) => {
@@ -79,6 +87,7 @@ fn resumed(
     }
 }
 
+/// Makes the step of a `return` with a value. It traps where the value's expression does.
 pub fn return_value(
     program: &Lifted,
     places: &Places,
@@ -88,7 +97,8 @@ pub fn return_value(
 ) -> Stepped
     requires live { IsTrue (spec.is_live state.old t) }
     requires same { places.now.functions ≡ map layout.places program.now.functions }
-    ensures { Leads result state.old state.new (spec.done (spec.turn program.now t state.old) 0 (stmt.Return (Some e.now))) }
+    ensures { Leads result state.old state.new
+        (spec.done (spec.acting program.now t state.old) 0 (stmt.Return (Some e.now))) }
 {
     match value_in(state, t, e) {
         Ok(v) => returned(program, places, state, t, v),

@@ -31,6 +31,8 @@ fn fields_of(program: &Lifted, owner: u32) -> usize
     }
 }
 
+/// Makes an object of struct `owner` (ISO C11, 7.22.3.4), all of whose fields are 0, puts its
+/// number into a slot and goes on at place `n`. It traps where 1,000,000 objects were made.
 pub fn make(
     alloc: Global,
     program: &Lifted,
@@ -41,7 +43,8 @@ pub fn make(
     owner: u32,
 ) -> Result<Stepped, AllocError>
     requires { IsTrue (spec.is_live state.old t) }
-    ensures ok { IfOk result (λ r. Leads r state.old state.new (spec.made (spec.turn program.now t state.old) n slot owner)) }
+    ensures ok { IfOk result (λ r. Leads r state.old state.new
+        (spec.made (spec.acting program.now t state.old) n slot owner)) }
     ensures err { OnErr result (state.new ≡ state.old) }
 {
     let count = state.heap.objects.len();
@@ -56,7 +59,8 @@ pub fn make(
 
 fn is_object(objects: &[Option<Object>], number: i32) -> bool
     requires { number ≢ pos 0 }
-    ensures { MatchBool result (IsOk (v.object objects.now number)) (v.object objects.now number ≡ Err Trap.Freed) }
+    ensures { MatchBool result (IsOk (v.object objects.now number))
+        (v.object objects.now number ≡ Err Trap.Freed) }
 {
     if number < 0 {
         return false;
@@ -67,9 +71,13 @@ fn is_object(objects: &[Option<Object>], number: i32) -> bool
     }
 }
 
+/// Frees the object that an expression points to (ISO C11, 7.22.3.3), and goes on at place `n`;
+/// nothing is freed at a null pointer. It traps where the expression does or where the object is
+/// not there.
 pub fn free(program: &Lifted, state: &mut State, t: u32, n: u32, e: &LExpr) -> Stepped
     requires { IsTrue (spec.is_live state.old t) }
-    ensures { Leads result state.old state.new (spec.done (spec.turn program.now t state.old) n (stmt.Free e.now)) }
+    ensures { Leads result state.old state.new
+        (spec.done (spec.acting program.now t state.old) n (stmt.Free e.now)) }
 {
     match value_in(state, t, e) {
         Ok(v) => freed(program, state, t, n, v),
@@ -79,7 +87,8 @@ pub fn free(program: &Lifted, state: &mut State, t: u32, n: u32, e: &LExpr) -> S
 
 fn freed(program: &Lifted, state: &mut State, t: u32, n: u32, v: i32) -> Stepped
     requires { IsTrue (spec.is_live state.old t) }
-    ensures { Leads result state.old state.new (spec.freed (spec.turn program.now t state.old) n v) }
+    ensures { Leads result state.old state.new
+        (spec.freed (spec.acting program.now t state.old) n v) }
 {
     if v == 0 {
         go(state, t, n, None, 0);

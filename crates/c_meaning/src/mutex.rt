@@ -9,6 +9,7 @@ use crate::change::{go, set_mutex};
 use crate::stepped::Stepped;
 use c_tree::{Lifted, State, Trap};
 
+/// The thread that holds mutex `m`, if one does.
 pub fn owner_of(state: &State, m: u32) -> Option<u32>
     ensures { result ≡ slice_index_or state.now.mutexes m None }
 {
@@ -18,9 +19,12 @@ pub fn owner_of(state: &State, m: u32) -> Option<u32>
     }
 }
 
+/// Locks mutex `m` (POSIX, `pthread_mutex_lock`) and goes on at place `n`. It is blocked while
+/// another thread holds it, and traps where thread `t` itself does.
 pub fn lock(program: &Lifted, state: &mut State, t: u32, n: u32, m: u32) -> Stepped
     requires { IsTrue (spec.is_live state.old t) }
-    ensures { Leads result state.old state.new (spec.done (spec.turn program.now t state.old) n (stmt.Lock m)) }
+    ensures { Leads result state.old state.new
+        (spec.done (spec.acting program.now t state.old) n (stmt.Lock m)) }
 {
     match owner_of(state, m) {
         None => {
@@ -36,9 +40,12 @@ pub fn lock(program: &Lifted, state: &mut State, t: u32, n: u32, m: u32) -> Step
     }
 }
 
+/// Unlocks mutex `m` (POSIX, `pthread_mutex_unlock`) and goes on at place `n`. It traps where
+/// thread `t` does not hold it.
 pub fn unlock(program: &Lifted, state: &mut State, t: u32, n: u32, m: u32) -> Stepped
     requires { IsTrue (spec.is_live state.old t) }
-    ensures { Leads result state.old state.new (spec.done (spec.turn program.now t state.old) n (stmt.Unlock m)) }
+    ensures { Leads result state.old state.new
+        (spec.done (spec.acting program.now t state.old) n (stmt.Unlock m)) }
 {
     match owner_of(state, m) {
         None => Stepped::Trapped(Trap::Unlock),

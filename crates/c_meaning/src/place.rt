@@ -7,6 +7,7 @@ ghost use Rattle.c_tree.specs.Step as spec;
 
 use c_tree::{Follow, Frame, Lifted, Place, Places};
 
+/// The place that follows, after a test the one for true.
 pub fn then_of(follow: Follow) -> u32
     ensures { result ≡ spec.then_of follow }
 {
@@ -17,6 +18,7 @@ pub fn then_of(follow: Follow) -> u32
     }
 }
 
+/// The place that follows, after a test the one for false.
 pub fn else_of(follow: Follow) -> u32
     ensures { result ≡ spec.else_of follow }
 {
@@ -27,9 +29,11 @@ pub fn else_of(follow: Follow) -> u32
     }
 }
 
+/// The place at which a frame stands; none behind the last place of its function.
 pub fn place_of<'a>(program: &Lifted, places: &'a Places, frame: &Frame) -> Option<&'a Place>
     requires { places.now.functions ≡ map layout.places program.now.functions }
-    ensures { option_map (λ r. r.now) result ≡ spec.place_in (slice_get program.now.functions frame.now.function) frame.now.place }
+    ensures { option_map (λ r. r.now) result
+        ≡ spec.place_in (slice_get program.now.functions frame.now.function) frame.now.place }
 {
     match places.functions.as_slice().get(frame.function as usize) {
         Some(row) => row.as_slice().get(frame.place as usize),

@@ -6,16 +6,20 @@ ghost use Rattle.c_tree.specs.Step as spec;
 ghost use Rattle.c_meaning.specs.Leads.{Leads};
 
 use crate::change::{end_thread, go, push_thread};
-use crate::read::{is_live, spot, value_in};
+use crate::read::{is_live, location, value_in};
 use crate::stepped::Stepped;
 use crate::store::{can_store, put};
 use c_tree::start::{fresh, stack};
-use c_tree::{Dest, LExpr, Lifted, Row, Spot, State, Trap};
+use c_tree::{Dest, LExpr, Lifted, Location, Row, State, Trap};
 use std::alloc::{AllocError, Global};
 
+/// Joins the thread whose number an expression gives (POSIX, `pthread_join`) and goes on at place
+/// `n`. It is blocked while that thread is live. It traps where the expression does, and where the
+/// number is the thread's own or that of no thread.
 pub fn join(program: &Lifted, state: &mut State, t: u32, n: u32, e: &LExpr) -> Stepped
     requires { IsTrue (spec.is_live state.old t) }
-    ensures { Leads result state.old state.new (spec.done (spec.turn program.now t state.old) n (stmt.Join e.now)) }
+    ensures { Leads result state.old state.new
+        (spec.done (spec.acting program.now t state.old) n (stmt.Join e.now)) }
 {
     match value_in(state, t, e) {
         Ok(v) => joined(program, state, t, n, v),
@@ -25,7 +29,8 @@ pub fn join(program: &Lifted, state: &mut State, t: u32, n: u32, e: &LExpr) -> S
 
 fn joined(program: &Lifted, state: &mut State, t: u32, n: u32, v: i32) -> Stepped
     requires { IsTrue (spec.is_live state.old t) }
-    ensures { Leads result state.old state.new (spec.joined (spec.turn program.now t state.old) n v) }
+    ensures { Leads result state.old state.new
+        (spec.joined (spec.acting program.now t state.old) n v) }
 {
     if v < 0 {
         return Stepped::Trapped(Trap::Join);
@@ -56,7 +61,8 @@ fn live_count(state: &State) -> usize
 }
 
 fn has_room(state: &State) -> bool
-    ensures { result ≡ (nat_lt (spec.live_count state.now) 64 && nat_lt (length state.now.threads) 1000) }
+    ensures { result ≡ (nat_lt (spec.live_count state.now) 64
+        && nat_lt (length state.now.threads) 1000) }
 {
     live_count(state) < 64 && state.threads.len() < 1000
 }
@@ -69,6 +75,9 @@ fn one(alloc: Global, value: i32) -> Result<Row<i32>, AllocError>
     Ok(Row::from_vec(values))
 }
 
+/// Starts a thread in function `f` with a value as its argument (POSIX, `pthread_create`), stores
+/// its number and goes on at place `n`. It traps where an operand does, where 64 threads are live
+/// or 1,000 were made, and where the store does.
 pub fn spawn(
     alloc: Global,
     program: &Lifted,
@@ -80,10 +89,11 @@ pub fn spawn(
     e: &LExpr,
 ) -> Result<Stepped, AllocError>
     requires { IsTrue (spec.is_live state.old t) }
-    ensures ok { IfOk result (λ r. Leads r state.old state.new (spec.done (spec.turn program.now t state.old) n (stmt.Spawn to.now f e.now))) }
+    ensures ok { IfOk result (λ r. Leads r state.old state.new
+        (spec.done (spec.acting program.now t state.old) n (stmt.Spawn to.now f e.now))) }
     ensures err { OnErr result (state.new ≡ state.old) }
 {
-    let to = match spot(state, t, to) {
+    let to = match location(state, t, to) {
         Ok(to) => to,
         Err(cause) => return Ok(Stepped::Trapped(cause)),
     };
@@ -100,12 +110,13 @@ fn spawned(
     state: &mut State,
     t: u32,
     n: u32,
-    to: Spot,
+    to: Location,
     f: u32,
     value: i32,
 ) -> Result<Stepped, AllocError>
     requires { IsTrue (spec.is_live state.old t) }
-    ensures ok { IfOk result (λ r. Leads r state.old state.new (spec.spawned (spec.turn program.now t state.old) n to f value)) }
+    ensures ok { IfOk result (λ r. Leads r state.old state.new
+        (spec.spawned (spec.acting program.now t state.old) n to f value)) }
     ensures err { OnErr result (state.new ≡ state.old) }
 {
     if !has_room(state) {
@@ -123,8 +134,11 @@ fn spawned(
     Ok(Stepped::Done)
 }
 
+/// Ends thread `t`. Thread 0 ends the program with the low 8 bits of `v` as its status (ISO C11,
+/// 5.1.2.2.3).
 pub fn ended(program: &Lifted, state: &mut State, t: u32, v: i32) -> Stepped
-    ensures { Leads result state.old state.new (spec.ended (spec.turn program.now t state.old) v) }
+    ensures { Leads result state.old state.new
+        (spec.ended (spec.acting program.now t state.old) v) }
 {
     if t == 0 {
         return Stepped::Finished((v.cast_unsigned() % 256) as u8);

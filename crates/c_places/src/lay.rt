@@ -122,30 +122,12 @@ fn lay(
 {
     match s {
         LStmt::If(test, yes, no) => {
-            lay_if(
-                alloc,
-                exits,
-                n,
-                next,
-                test,
-                yes.as_slice(),
-                no.as_slice(),
-                out,
-            )
+            let (yes, no) = (yes.as_slice(), no.as_slice());
+            lay_if(alloc, exits, n, next, test, yes, no, out)
         }
         LStmt::Loop(calls, test, body, step) => {
-            let (calls, body) = (calls.as_slice(), body.as_slice());
-            lay_loop(
-                alloc,
-                exits,
-                n,
-                next,
-                calls,
-                test,
-                body,
-                step.as_slice(),
-                out,
-            )
+            let (calls, body, step) = (calls.as_slice(), body.as_slice(), step.as_slice());
+            lay_loop(alloc, exits, n, next, calls, test, body, step, out)
         }
         LStmt::Break => Ok(()),
         LStmt::Continue => Ok(()),

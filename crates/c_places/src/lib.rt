@@ -11,11 +11,7 @@ mod laws;
 mod lay;
 mod points;
 mod size;
-#[cfg(test)]
-mod tests;
 
-pub use c_tree::place::MAX_PLACES;
-pub use c_tree::{Follow, PlaceKind, Places};
 pub use laws::{all_places_are_counted, flow_goes_on, kind_and_number_tell_a_place};
 pub use lay::places;
 pub use points::points_text;

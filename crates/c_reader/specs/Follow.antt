@@ -27,10 +27,11 @@ passes (Unless q ∷ symbols) k = not (is_kind q (Some k)) && passes symbols k
 passes (Act a ∷ symbols) k = passes symbols k
 passes (Expand r ∷ symbols) k = false
 
--- the rule may take nothing, before a token of this kind, or before the end
+-- the rule may take nothing before a token of this kind
 abbrev pub vanishes : (Rule → List (List Symbol)) → Rule → Kind → Bool
 vanishes rules r k = list_any (λ symbols. passes symbols k) (rules r)
 
+-- the rule may take nothing before the end
 abbrev pub vanishes_end : (Rule → List (List Symbol)) → Rule → Bool
 vanishes_end rules r = list_any is_empty (rules r)
 
@@ -51,6 +52,7 @@ Fits rules firsts blocked used (Act a ∷ symbols) = Fits rules firsts blocked u
 Fits rules firsts blocked used (Expand r ∷ symbols) =
     (used r ≡ true) × (((k : Kind) → blocks blocked r k ≡ true → MayTake rules firsts symbols k → ⊥) × Fits rules firsts blocked used symbols)
 
+-- the symbols to come fit the reader's own tables
 abbrev pub FitsReader : List Symbol → Type 0
 FitsReader symbols = Fits choices first_kinds blocked_kinds used_rules symbols
 
@@ -62,6 +64,7 @@ work_then rules ranks (Unless k ∷ symbols) n = work_then rules ranks symbols n
 work_then rules ranks (Act a ∷ symbols) n = work_then rules ranks symbols n + 1
 work_then rules ranks (Expand r ∷ symbols) n = ranks r + cond (vanishes_end rules r) (work_then rules ranks symbols n) 0
 
+-- how much work is left before the symbols to come take a token
 abbrev pub work : List Symbol → ℕ
 work symbols = work_then choices rank symbols 0
 
@@ -85,10 +88,13 @@ abbrev pub with_next : Option Kind → Mark → List Symbol → List Symbol
 with_next None mark symbols = symbols
 with_next (Some k) mark symbols = Take k mark ∷ symbols
 
+-- the reader is where the next token is taken:
+-- the symbols to come begin with it, or there is none and nothing is to come
 abbrev pub Reached : Mark → Option Kind → List Symbol → State → List Symbol → State → Type 0
 Reached mark ahead symbols state symbols' state' =
     Leads ahead symbols state (with_next ahead mark symbols') state' × (FitsReader symbols' × (ahead ≡ None → symbols' ≡ []))
 
+-- a turn of the reader changed the symbols to come: the same tokens go on, and less work is left
 pub record Changed (ahead : Option Kind) (symbols : List Symbol) (state : State) (symbols' : List Symbol) (state' : State) : Type 0 where
   pub leads : Leads ahead symbols state symbols' state'
   pub fits : FitsReader symbols'

@@ -12,6 +12,7 @@ use Rattle.c_grammar.specs.Pieces.{Piece}
 use Rattle.c_grammar.specs.Rules.{alternatives, start}
 use Rattle.c_grammar.specs.Reading.{Part, Any, Goes, IsLive}
 
+-- the alternatives of each rule, where an `else` may belong to any open `if`
 abbrev pub loose : Rule → List (List Symbol)
 loose rule.ElsePart =
     (Take kind.Else Open ∷ Expand rule.Stmt ∷ Act action.Leave ∷ Act action.IfElse ∷ [])

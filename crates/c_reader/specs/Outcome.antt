@@ -31,6 +31,7 @@ pub record Takes (p : Piece) (symbols : List Symbol) (state : State) (symbols' :
   pub deeper : state'.depth ≤ state.depth + 1
   pub more : state'.operators ≤ state.operators + 1
 
+-- no tokens go on with this one in front
 abbrev pub NeverTakes : Piece → List Symbol → State → Type 0
 NeverTakes p symbols state = (aim : Aim) (ps : List Piece) → Goes choices aim symbols state (p ∷ ps) → ⊥
 
@@ -51,10 +52,12 @@ Misses p symbols state cause.TooDeep =
 Misses p symbols state cause.Unexpected = (p.kind ≢ kind.LeftOut) × ((least symbols state.depth ≤ depth_limit p.kind) × NeverTakes p symbols state)
 Misses p symbols state _ = ⊥
 
+-- the tokens may end here, and the values of the new state are then the only reading
 pub record Finishes (symbols : List Symbol) (state state' : State) : Type 0 where
   pub done : Goes choices (Whole state'.values) symbols state []
   pub only : (others : List Value) → Goes choices (Whole others) symbols state [] → others ≡ state'.values
 
+-- the tokens can't end here
 abbrev pub NeverFinishes : List Symbol → State → Type 0
 NeverFinishes symbols state = (others : List Value) → Goes choices (Whole others) symbols state [] → ⊥
 

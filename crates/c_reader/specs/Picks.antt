@@ -31,6 +31,7 @@ takes_nothing (Unless k) = true
 takes_nothing (Act a) = true
 takes_nothing (Expand r) = false
 
+-- none of the symbols takes a token
 abbrev pub is_empty : List Symbol → Bool
 is_empty symbols = list_all takes_nothing symbols
 

@@ -12,10 +12,12 @@ abbrev pub IsRefusalIn : Scan → ℕ → ReadRefused → Type 0
 IsRefusalIn scan len (refused.At at c) = IsFaultIn scan len at c
 IsRefusalIn scan len (refused.Memory e) = Unit {0}
 
+-- a refusal of a source names its first fault, or memory was wanted
 abbrev pub IsRefusal : List ℕ → ReadRefused → Type 0
 IsRefusal bytes (refused.At at c) = IsFirstFault bytes at c
 IsRefusal bytes (refused.Memory e) = Unit {0}
 
+-- a refusal of tokens from an offset on names their first fault, or memory was wanted
 abbrev pub IsRefusalAt : List Token → ℕ → ReadRefused → Type 0
 IsRefusalAt ts from (refused.At at c) = IsFaultAt ts from at c
 IsRefusalAt ts from (refused.Memory e) = Unit {0}

@@ -9,6 +9,7 @@ ghost use Rattle.c_reader.specs.Picks.{is_kind, begins, leads, is_empty, picks, 
 use crate::table::{alternatives_of, first_kinds_of};
 use c_grammar::{Kind, Rule, Symbol};
 
+/// Whether the next token is of this kind; at the end there is none.
 pub fn is_next(kind: Kind, ahead: Option<Kind>) -> bool
     ensures { result ≡ is_kind kind ahead }
 {
@@ -18,6 +19,7 @@ pub fn is_next(kind: Kind, ahead: Option<Kind>) -> bool
     }
 }
 
+/// Whether a text of the rule may begin with the next token.
 fn can_begin(rule: Rule, ahead: Option<Kind>) -> bool
     ensures { result ≡ begins first_kinds rule ahead }
 {
@@ -26,6 +28,7 @@ fn can_begin(rule: Rule, ahead: Option<Kind>) -> bool
         .any(|kind| is_next(*kind, ahead))
 }
 
+/// Whether a text of the symbols may begin with the next token.
 fn can_lead(symbols: &[Symbol], ahead: Option<Kind>) -> bool
     ensures { result ≡ leads first_kinds symbols.now ahead }
 {
@@ -40,6 +43,7 @@ fn can_lead(symbols: &[Symbol], ahead: Option<Kind>) -> bool
     false
 }
 
+/// Whether the symbols take no token.
 fn takes_none(symbols: &[Symbol]) -> bool
     ensures { result ≡ is_empty symbols.now }
 {
@@ -61,13 +65,15 @@ pub fn may_vanish(rule: Rule) -> bool
     false
 }
 
+/// Whether the next token picks the alternative: it begins with the token, or takes none where no
+/// text of the rule begins with it.
 fn is_picked(rule: Rule, ahead: Option<Kind>, symbols: &[Symbol]) -> bool
     ensures { result ≡ picks first_kinds rule ahead symbols.now }
 {
     can_lead(symbols, ahead) || (takes_none(symbols) && !can_begin(rule, ahead))
 }
 
-/// The alternative of the rule that the next token picks.
+/// The first alternative of the rule that the next token picks.
 pub fn pick(rule: Rule, ahead: Option<Kind>) -> Option<&'static [Symbol]>
     ensures { option_copied result ≡ predict choices first_kinds rule ahead }
 {

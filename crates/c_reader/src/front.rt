@@ -14,7 +14,7 @@ use c_tokens::ReadRefused;
 use c_tree::{Expr, ReadCause, Token};
 use std::alloc::Global;
 
-/// Where the last token ends.
+/// Where the last token ends, as an offset in bytes; 0 where there is none.
 fn end_of(tokens: &[Token]) -> u32
     requires { All (λ t. t.at + t.len < 2 ^ 32) tokens.now }
     ensures { result ≡ spec.end_of tokens.now }
@@ -25,12 +25,15 @@ fn end_of(tokens: &[Token]) -> u32
     }
 }
 
-/// Reads the expression that the tokens from a position on begin with: the most tokens that an expression can begin with, if
-/// they are one. Answers it with the position behind it, or the offset and the cause of the fault.
+/// Reads the expression that the tokens from a position on begin with: the most tokens that an
+/// expression can begin with, if they are one. Answers it with the position behind it, or the
+/// offset in bytes and the cause of the fault.
 pub fn expr_at(alloc: Global, tokens: &[Token], from: usize) -> Result<(Expr, usize), ReadRefused>
     requires within { from ≤ length tokens.now }
     requires ends { All (λ t. t.at + t.len < 2 ^ 32) tokens.now }
-    ensures { MatchResult result (λ found. spec.IsExprAt tokens.now from found.0 found.1) (IsRefusalAt tokens.now from) }
+    ensures { MatchResult result
+        (λ found. spec.IsExprAt tokens.now from found.0 found.1)
+        (IsRefusalAt tokens.now from) }
 {
     match parse(alloc, &[Symbol::Expand(Rule::MapExpr)], &tokens[from..]) {
         Ok(Found::Done(mut values)) => Ok((pop_operand(&mut values).expr, tokens.len())),
@@ -55,7 +58,9 @@ fn expr_before(
     requires within { from ≤ length tokens.now }
     requires fault { IsFirst expr_start (spec.pieces_from tokens.now from) count cause }
     requires other { cause ≢ causes.TooDeep }
-    ensures { MatchResult result (λ found. spec.IsExprAt tokens.now from found.0 found.1) (IsRefusalAt tokens.now from) }
+    ensures { MatchResult result
+        (λ found. spec.IsExprAt tokens.now from found.0 found.1)
+        (IsRefusalAt tokens.now from) }
 {
     match parse(
         alloc,

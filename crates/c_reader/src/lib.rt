@@ -1,30 +1,22 @@
-//! The reader: from the bytes of a source to its program, or to the first fault.
+//! The reader: from the bytes of a source to its program, or to the first fault. It judges no
+//! types.
 //!
-//! The layer above rests on `read_program`: what it answers is the one program that the source is, or its first fault. An
-//! LL(1) machine reads by tables, which a script computes and the check proves. `parse` is that machine for any symbols that
-//! a text may begin with.
+//! The layer above rests on `read_program`: what it answers is the one program that the source is,
+//! or its first fault. An LL(1) machine reads by tables, which a script computes and the check
+//! proves. `parse` is that machine for any symbols that a text may begin with.
 #![tactic(auto)]
 
 mod choose;
 mod found;
 mod front;
-#[cfg(test)]
-mod front_tests;
 mod laws;
-#[cfg(test)]
-mod limit_tests;
 mod machine;
 mod run;
 mod source;
 mod table;
-#[cfg(test)]
-mod tests;
-#[cfg(test)]
-mod tree_tests;
 mod turn;
 
 pub use c_tokens::{ReadRefused, tokens};
-pub use c_tree::ReadCause;
 pub use found::Found;
 pub use front::expr_at;
 pub use laws::{

@@ -13,6 +13,7 @@ use c_grammar::{
 use c_tree::ReadCause;
 use std::alloc::{AllocError, Global};
 
+/// What is to come and what was read, between two tokens.
 #[derive(Drop)]
 pub struct Machine {
     /// What is to come, the next symbol last.
@@ -25,9 +26,11 @@ pub struct Machine {
     pub operators: usize,
 }
 
+/// How many operators an expression may have.
 const OPERATOR_LIMIT: usize = 1000;
 
-/// How many constructs may be open before a token of this kind.
+/// How many constructs may be open before a token of this kind. `EOF` stands for `-1`, whose
+/// prefix operator opens one more.
 fn depth_limit(kind: Kind) -> usize
     ensures { result ≡ spec.depth_limit kind }
 {
@@ -37,6 +40,7 @@ fn depth_limit(kind: Kind) -> usize
     }
 }
 
+/// Whether a token of this kind is a left-out word.
 fn is_left_out(kind: Kind) -> bool
     ensures { IsTrue result ↔ (kind ≡ which.LeftOut) }
 {
@@ -65,7 +69,8 @@ impl Machine {
     /// Deals with the symbol in front, before the next token or the end.
     fn turn(&mut self, alloc: Global, ahead: Option<Kind>) -> Result<Turn, AllocError>
         requires { FitsReader (to_come self.old) }
-        ensures turned { IfOk result (λ turn. Turned turn ahead (to_come self.old) (so_far self.old) (to_come self.new) (so_far self.new)) }
+        ensures turned { IfOk result (λ turn. Turned turn ahead
+            (to_come self.old) (so_far self.old) (to_come self.new) (so_far self.new)) }
         ensures lower { self.new.depth ≤ self.old.depth }
         ensures fewer { self.new.operators ≤ self.old.operators }
     {
@@ -107,11 +112,14 @@ impl Machine {
         }
     }
 
-    /// Goes on until the next token can be taken, or at the end until nothing is to come. Answers whether it came so far,
-    /// with the token's mark.
+    /// Goes on until the next token can be taken, or at the end until nothing is to come. Answers
+    /// whether it came so far, with the token's mark.
     fn advance(&mut self, alloc: Global, ahead: Option<Kind>) -> Result<Option<Mark>, AllocError>
         requires { FitsReader (to_come self.old) }
-        ensures reached { IfOk result (λ reached. MatchOption reached (Refuses ahead (to_come self.old) (so_far self.old)) (λ mark. Reached mark ahead (to_come self.old) (so_far self.old) (to_come self.new) (so_far self.new))) }
+        ensures reached { IfOk result (λ reached. MatchOption reached
+            (Refuses ahead (to_come self.old) (so_far self.old))
+            (λ mark. Reached mark ahead
+            (to_come self.old) (so_far self.old) (to_come self.new) (so_far self.new))) }
         ensures lower { self.new.depth ≤ self.old.depth }
         ensures fewer { self.new.operators ≤ self.old.operators }
     {
@@ -167,7 +175,8 @@ impl Machine {
         requires deep { self.old.depth + 1 < 2 ^ 64 }
         requires few { self.old.operators ≤ 1000 }
         ensures symbols { to_come self.new ≡ to_come self.old }
-        ensures state { OnOk result (so_far self.new ≡ with_token mark (T.piece token.now).value (so_far self.old)) }
+        ensures state { OnOk result
+            (so_far self.new ≡ with_token mark (T.piece token.now).value (so_far self.old)) }
     {
         if mark.keeps() {
             push_value(&mut self.values, token.value()?)?;
@@ -190,7 +199,10 @@ impl Machine {
         requires fits { FitsReader (to_come self.old) }
         requires deep { self.old.depth + 1 < 2 ^ 64 }
         requires few { self.old.operators ≤ 1000 }
-        ensures { IfOk result (λ fault. MatchOption fault (Meets (T.piece token.now) (to_come self.old) (so_far self.old) (to_come self.new) (so_far self.new)) (Misses (T.piece token.now) (to_come self.old) (so_far self.old))) }
+        ensures { IfOk result (λ fault. MatchOption fault
+            (Meets (T.piece token.now)
+            (to_come self.old) (so_far self.old) (to_come self.new) (so_far self.new))
+            (Misses (T.piece token.now) (to_come self.old) (so_far self.old))) }
     {
         let kind = token.kind();
         if is_left_out(kind) {
@@ -214,7 +226,9 @@ impl Machine {
     /// Uses up what is to come, or says that the text breaks off.
     pub fn finish(&mut self, alloc: Global) -> Result<bool, AllocError>
         requires { FitsReader (to_come self.old) }
-        ensures { IfOk result (λ done. MatchBool done (Finishes (to_come self.old) (so_far self.old) (so_far self.new)) (NeverFinishes (to_come self.old) (so_far self.old))) }
+        ensures { IfOk result (λ done. MatchBool done
+            (Finishes (to_come self.old) (so_far self.old) (so_far self.new))
+            (NeverFinishes (to_come self.old) (so_far self.old))) }
     {
         match self.advance(alloc, None)? {
             Some(_) => Ok(true),

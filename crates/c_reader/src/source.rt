@@ -23,7 +23,8 @@ fn read_scan(
     fault: Option<At<ReadCause>>,
     len: u32,
 ) -> Result<Program, ReadRefused>
-    ensures { let scan = text.scan lexemes.now fault in MatchResult result (IsProgramIn scan len) (IsRefusalIn scan len) }
+    ensures { let scan = text.scan lexemes.now fault
+        in MatchResult result (IsProgramIn scan len) (IsRefusalIn scan len) }
 {
     let begin = [
         Symbol::Act(Action::StartProgram),
@@ -47,8 +48,9 @@ fn read_scan(
     }
 }
 
-/// Reads a source: the program that it is, or the offset and the cause of its first fault. A source of more than 1048576
-/// bytes is refused as too long at that offset. The program has the form that the laws of the lifting ask for.
+/// Reads a source: the program that it is, or the offset in bytes and the cause of its first fault.
+/// A source of more than 1048576 bytes is refused as too long at that offset. The program has the
+/// form that the laws of the lifting ask for.
 pub fn read_program(alloc: Global, bytes: &[u8]) -> Result<Program, ReadRefused>
     ensures answer { MatchResult result (IsProgramOf bytes.now) (IsRefusal bytes.now) }
     ensures form { IfOk result HasReadForm }

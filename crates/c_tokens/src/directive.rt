@@ -1,4 +1,4 @@
-//! Lines that begin with `#`.
+//! Lines that begin with `#` (ISO C11, 6.10): includes and defines.
 ghost use Rattle.std.specs.Prelude.{◌≡◌, ◌≤◌, ◌+◌, length, IfOk, IfSome, map, option_map};
 ghost use Rattle.c_tokens.specs.Front as front;
 ghost use Rattle.c_tokens.specs.Directive as text;
@@ -9,10 +9,12 @@ use crate::word::{is_left_out, is_name};
 use c_tree::{At, Define, Name, ReadCause, Text, TokenKind};
 use std::alloc::{AllocError, Global};
 
-/// How a line that begins with `#` is read; with the offset behind what it needs.
-#[derive(Debug, Drop)]
+/// How a line that begins with `#` is read; with the offset in bytes behind what it needs.
+#[derive(Drop)]
 pub enum Line {
+    /// An include of one of the three headers (6.10.2).
     Include(u32),
+    /// A define of a number (6.10.3).
     Define(Define, u32),
     /// An include or a define with a fault before its end.
     Broken(At<ReadCause>),
@@ -28,12 +30,14 @@ fn gap_len(bytes: &[u8]) -> usize
     bytes.iter().take_while(|b| is_gap(**b)).count()
 }
 
+/// A directive with a fault.
 fn broken(at: u32, it: ReadCause) -> Line
     ensures { result ≡ text.broken at it }
 {
     Line::Broken(At { at, it })
 }
 
+/// Why a word may not stand where it stands.
 fn misfit_word(word: Name) -> ReadCause
     ensures { result ≡ text.misfit_word word }
 {
@@ -67,6 +71,7 @@ fn misfit(front: Front) -> ReadCause
     }
 }
 
+/// The headers that may be included.
 fn headers() -> &'static [&'static [u8]]
     ensures { map (λ h. h.now) result.now ≡ text.headers }
 {
@@ -206,7 +211,7 @@ fn with_word(alloc: Global, at: u32, bytes: &[u8]) -> Result<Line, AllocError>
     worded(alloc, &bytes[..len], at + len as u32, &bytes[len..])
 }
 
-/// A directive, from its `#` on.
+/// A directive, from its `#` on, which stands at this offset in bytes.
 pub fn directive(alloc: Global, at: u32, bytes: &[u8]) -> Result<Line, AllocError>
     requires some { 1 ≤ length bytes.now }
     requires within { at + length bytes.now ≤ 1048576 }

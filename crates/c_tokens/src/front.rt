@@ -1,12 +1,11 @@
-//! What stands at the front of the bytes.
-ghost use Rattle.std.specs.Prelude.{◌≡◌, ◌≤◌, ◌<◌, ◌^◌, length, IfOk};
+//! What stands at the front of the bytes: a blank, a comment, a token or a fault (ISO C11, 6.4).
+ghost use Rattle.std.specs.Prelude.{◌≡◌, ◌≤◌, ◌<◌, ◌^◌, length, IfOk, IfSome};
 ghost use Rattle.c_tokens.specs.Front as text;
 ghost use Rattle.c_tokens.specs.Literal as lit;
 ghost use Rattle.c_tokens.specs.Comment as comment;
 ghost use Rattle.c_tokens.specs.Operator as operators;
 
 use crate::class::{Class, class_of, name_run};
-use crate::comment::{line_len, up_to_close};
 use crate::literal::literal;
 use crate::operator::{longest, operator};
 use crate::quoted::{Quoted, constant};
@@ -14,16 +13,19 @@ use c_tree::{ReadCause, Text, TokenKind};
 use std::alloc::{AllocError, Global};
 
 /// What stands at the front of the bytes; a comment and a token with the number of their bytes.
-#[derive(Debug, Drop)]
+#[derive(Drop)]
 pub enum Front {
     /// No byte is left.
     End,
+    /// One byte between tokens.
     Blank,
     Comment(usize),
     Token(TokenKind, usize),
+    /// What stands there is no token.
     Fault(ReadCause),
 }
 
+/// A word, of at most 64 bytes (ISO C11, 5.2.4.1, asks for 63 at least).
 fn word(alloc: Global, run: &[u8]) -> Result<Front, AllocError>
     ensures { IfOk result (λ f. f ≡ text.word run.now) }
 {
@@ -34,6 +36,7 @@ fn word(alloc: Global, run: &[u8]) -> Result<Front, AllocError>
     Ok(Front::Token(TokenKind::Word(name), run.len()))
 }
 
+/// A number, from the bytes of names and digits at the front.
 fn number(run: &[u8]) -> Front
     ensures { result ≡ text.number (lit.literal run.now) (length run.now) }
 {
@@ -43,6 +46,7 @@ fn number(run: &[u8]) -> Front
     }
 }
 
+/// A string literal.
 fn string(constant: Quoted) -> Front
     ensures { result ≡ text.string constant }
 {
@@ -53,6 +57,7 @@ fn string(constant: Quoted) -> Front
     }
 }
 
+/// A character constant of one byte, by its text and the number of its bytes.
 fn single(bytes: &[u8], len: usize) -> Front
     ensures { result ≡ text.single bytes.now len }
 {
@@ -62,6 +67,7 @@ fn single(bytes: &[u8], len: usize) -> Front
     }
 }
 
+/// A character constant.
 fn character(constant: Quoted) -> Front
     ensures { result ≡ text.character constant }
 {
@@ -70,6 +76,26 @@ fn character(constant: Quoted) -> Front
         Quoted::Wrong => Front::Fault(ReadCause::BadToken),
         Quoted::Closed(text, n) => single(text.as_bytes(), n),
     }
+}
+
+/// How many bytes stand on the line from here on, without its end.
+fn line_len(bytes: &[u8]) -> usize
+    ensures { result ≡ comment.line_len bytes.now }
+{
+    bytes.iter().take_while(|b| **b != b'\n').count()
+}
+
+/// How many bytes there are up to and including the first `*/`.
+fn up_to_close(bytes: &[u8]) -> Option<usize>
+    ensures count { result ≡ comment.up_to_close bytes.now }
+    ensures within { IfSome result (λ n. n ≤ length bytes.now) }
+{
+    'bytes: for i in 0..bytes.len() {
+        if bytes[i..].starts_with(b"*/") {
+            return Some(i + 2);
+        }
+    }
+    None
 }
 
 /// A comment behind its `/*`.
@@ -82,6 +108,7 @@ fn block(rest: &[u8]) -> Front
     }
 }
 
+/// An operator: the longest that fits (ISO C11, 6.4, paragraph 4).
 fn punct(bytes: &[u8]) -> Front
     ensures { result ≡ text.punct (operators.longest bytes.now) }
 {
@@ -104,6 +131,7 @@ fn sign(bytes: &[u8]) -> Front
     }
 }
 
+/// What stands at the front of the bytes.
 fn read_front(alloc: Global, bytes: &[u8]) -> Result<Front, AllocError>
     ensures { IfOk result (λ f. f ≡ text.front_of bytes.now) }
 {
@@ -120,7 +148,7 @@ fn read_front(alloc: Global, bytes: &[u8]) -> Result<Front, AllocError>
     }
 }
 
-/// What stands at the front of the bytes.
+/// What stands at the front of the bytes, which is no longer than they are.
 pub fn front_of(alloc: Global, bytes: &[u8]) -> Result<Front, AllocError>
     ensures front { IfOk result (λ f. f ≡ text.front_of bytes.now) }
     ensures within { IfOk result (λ f. text.size_of f ≤ length bytes.now) }

@@ -1,11 +1,9 @@
-//! From the bytes of a C source to tokens, or the first fault among them.
-//!
-//! It knows the left-out words and how directives are written, and nothing else of the grammar.
-//! The layer above rests on `scan`: the lexemes before the first fault, and that fault.
+//! From the bytes of a C source to tokens (ISO C11, 6.4) and directives (6.10), or the first fault.
+//! It knows left-out words and how directives are written, and nothing else of the grammar. The
+//! layer above rests on `scan`: the lexemes before the first fault, and that fault.
 #![tactic(auto)]
 
 mod class;
-mod comment;
 mod directive;
 mod front;
 mod laws;
@@ -17,7 +15,6 @@ mod quoted;
 mod refused;
 mod source;
 mod text_scan;
-mod token_list;
 mod word;
 
 pub use laws::{
@@ -27,9 +24,5 @@ pub use laws::{
 pub use lexeme::{Lexeme, LexemeKind, Scan};
 pub use refused::ReadRefused;
 pub use source::scan;
-pub use text_scan::{TextScan, scan_text};
-pub use token_list::tokens;
+pub use text_scan::{TextScan, scan_text, tokens};
 pub use word::{is_left_out, is_name};
-
-#[cfg(test)]
-mod tests;

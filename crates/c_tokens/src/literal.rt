@@ -1,4 +1,5 @@
-//! Literals and their numbers.
+//! Integer constants and their numbers (ISO C11, 6.4.4.1): decimal, octal and hexadecimal ones,
+//! without a suffix.
 ghost use Rattle.std.specs.Prelude.{◌≡◌, ◌≤◌, ◌<◌, ◌^◌, length, min, IfOk, nat_lt};
 ghost use Rattle.std.specs.List.{list_all};
 ghost use Rattle.c_tokens.specs.Literal as text;
@@ -6,6 +7,7 @@ ghost use Rattle.c_tokens.specs.Literal as text;
 use crate::class::is_digit;
 use c_tree::ReadCause;
 
+/// The largest number of an `int`.
 const LIMIT: u32 = 2147483647;
 
 /// What a byte counts as a digit: 0 to 15, and 16 where it is none.
@@ -24,18 +26,21 @@ fn digit_of(b: u8) -> u32
     }
 }
 
+/// Whether a byte is a digit of the base.
 fn is_digit_of(base: u32, b: u8) -> bool
     ensures { result ≡ nat_lt (text.digit_of b) base }
 {
     digit_of(b) < base
 }
 
+/// Whether each byte is a digit of the base.
 fn all_digits(base: u32, bytes: &[u8]) -> bool
     ensures { result ≡ list_all (λ b. nat_lt (text.digit_of b) base) bytes.now }
 {
     bytes.iter().all(|b| is_digit_of(base, *b))
 }
 
+/// Whether the bytes are one digit of the base or more.
 fn are_digits(base: u32, bytes: &[u8]) -> bool
     ensures { result ≡ text.are_digits base bytes.now }
 {
@@ -55,6 +60,7 @@ fn capped_number(base: u32, digits: &[u8]) -> u32
     number as u32
 }
 
+/// The number that digits of the base spell, or why they spell none.
 fn in_base(base: u32, digits: &[u8]) -> Result<u32, ReadCause>
     requires base { 0 < base }
     requires small { base ≤ 16 }
@@ -71,7 +77,7 @@ fn in_base(base: u32, digits: &[u8]) -> Result<u32, ReadCause>
     Ok(number)
 }
 
-/// The number of a literal, from 0 to 2147483647, or why it has none.
+/// The number of an integer constant, from 0 to 2147483647, or why it has none.
 pub fn literal(run: &[u8]) -> Result<u32, ReadCause>
     ensures number { result ≡ text.literal run.now }
     ensures within { IfOk result (λ n. n ≤ 2147483647) }

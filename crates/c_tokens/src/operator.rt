@@ -1,4 +1,4 @@
-//! Operators, by their places in a list.
+//! Operators and other signs, by their places in a list (ISO C11, 6.4.6).
 ghost use Rattle.std.specs.Prelude.{◌≡◌};
 ghost use Rattle.c_tokens.specs.Operator as text;
 
@@ -12,56 +12,21 @@ fn longest_first() -> &'static [u8; 45]
     ]
 }
 
-/// The bytes of an operator; none for a number that is no place.
+/// The bytes of the operator of a place, 0 to 44; none for a number that is no place.
+#[rattlefmt::skip]
 pub fn operator(place: u8) -> &'static [u8]
     ensures { result.now ≡ text.operator place }
 {
     match place {
-        0 => b"+",
-        1 => b"-",
-        2 => b"*",
-        3 => b"/",
-        4 => b"%",
-        5 => b"<<",
-        6 => b">>",
-        7 => b"<",
-        8 => b"<=",
-        9 => b">",
-        10 => b">=",
-        11 => b"==",
-        12 => b"!=",
-        13 => b"&",
-        14 => b"^",
-        15 => b"|",
-        16 => b"&&",
-        17 => b"||",
-        18 => b"!",
-        19 => b"~",
-        20 => b"=",
-        21 => b"+=",
-        22 => b"-=",
-        23 => b"*=",
-        24 => b"/=",
-        25 => b"%=",
-        26 => b"&=",
-        27 => b"^=",
-        28 => b"|=",
-        29 => b"<<=",
-        30 => b">>=",
-        31 => b"++",
-        32 => b"--",
-        33 => b"->",
-        34 => b"(",
-        35 => b")",
-        36 => b"[",
-        37 => b"]",
-        38 => b"{",
-        39 => b"}",
-        40 => b",",
-        41 => b";",
-        42 => b".",
-        43 => b"?",
-        44 => b":",
+        0 => b"+", 1 => b"-", 2 => b"*", 3 => b"/", 4 => b"%",
+        5 => b"<<", 6 => b">>", 7 => b"<", 8 => b"<=", 9 => b">",
+        10 => b">=", 11 => b"==", 12 => b"!=", 13 => b"&", 14 => b"^",
+        15 => b"|", 16 => b"&&", 17 => b"||", 18 => b"!", 19 => b"~",
+        20 => b"=", 21 => b"+=", 22 => b"-=", 23 => b"*=", 24 => b"/=",
+        25 => b"%=", 26 => b"&=", 27 => b"^=", 28 => b"|=", 29 => b"<<=",
+        30 => b">>=", 31 => b"++", 32 => b"--", 33 => b"->", 34 => b"(",
+        35 => b")", 36 => b"[", 37 => b"]", 38 => b"{", 39 => b"}",
+        40 => b",", 41 => b";", 42 => b".", 43 => b"?", 44 => b":",
         _ => b"",
     }
 }

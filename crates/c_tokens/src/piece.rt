@@ -12,38 +12,44 @@ use c_tree::{At, ReadCause, Text, TokenKind};
 use std::alloc::{AllocError, Global};
 
 /// The part of a line where a piece stands.
-#[derive(Clone, Copy, Debug)]
+#[derive(Clone, Copy)]
 pub enum Part {
     /// Only blanks stand before it on the line.
     Head,
+    /// A token or a comment stands before it on the line.
     Middle,
     /// A directive stands before it on the line.
     Tail,
 }
 
 /// A piece of a source, with the part behind it and the number of its bytes.
-#[derive(Debug, Drop)]
+#[derive(Drop)]
 pub enum Piece {
     /// A blank or a comment.
     Gap(Part, usize),
+    /// A token or a directive.
     Lexeme(LexemeKind, Part, usize),
+    /// A fault that is no directive's.
     Fault(At<ReadCause>),
     /// An include or a define with a fault on its line.
     Begun(At<ReadCause>),
 }
 
+/// A fault at this offset.
 fn fault(at: u32, it: ReadCause) -> Piece
     ensures { result ≡ text.fault at it }
 {
     Piece::Fault(At { at, it })
 }
 
+/// The part of the line behind a blank.
 fn after_blank(part: Part, b: u8) -> Part
     ensures { result ≡ text.after_blank part b }
 {
     if b == b'\n' { Part::Head } else { part }
 }
 
+/// The part of the line behind a comment.
 fn after_comment(part: Part) -> Part
     ensures { result ≡ text.after_comment part }
 {
@@ -68,6 +74,7 @@ fn of_token(at: u32, kind: TokenKind, len: usize) -> Piece
     }
 }
 
+/// A token in a part of the line: behind a directive none may stand.
 fn in_part(part: Part, at: u32, kind: TokenKind, len: usize) -> Piece
     ensures { result ≡ text.in_part part at kind len }
 {
@@ -77,6 +84,7 @@ fn in_part(part: Part, at: u32, kind: TokenKind, len: usize) -> Piece
     }
 }
 
+/// What stands at the front, as a piece of the source; `b` is its first byte.
 fn of_front(part: Part, at: u32, b: u8, front: Front) -> Piece
     ensures { result ≡ text.of_front part at b front }
 {
@@ -89,6 +97,7 @@ fn of_front(part: Part, at: u32, b: u8, front: Front) -> Piece
     }
 }
 
+/// Whether a directive begins with the byte.
 fn is_hash(part: Part, b: u8) -> bool
     ensures { result ≡ text.is_hash part b }
 {
@@ -98,6 +107,7 @@ fn is_hash(part: Part, b: u8) -> bool
     }
 }
 
+/// A line that begins with `#`, as a piece of the source.
 fn of_line(alloc: Global, at: u32, line: Line) -> Result<Piece, AllocError>
     ensures { IfOk result (λ p. p ≡ text.of_line at line) }
 {
@@ -118,7 +128,7 @@ fn of_line(alloc: Global, at: u32, line: Line) -> Result<Piece, AllocError>
     }
 }
 
-/// What the source goes on with at an offset, in a part of a line.
+/// What the source goes on with at an offset in bytes, in a part of a line.
 pub fn piece_at(alloc: Global, part: Part, at: u32, bytes: &[u8]) -> Result<Piece, AllocError>
     requires { at + length bytes.now ≤ 1048576 }
     ensures { IfOk result (λ p. p ≡ text.piece_at part at bytes.now) }

@@ -1,11 +1,13 @@
-//! Strings and character constants, from behind their opening quote on.
+//! String literals and character constants (ISO C11, 6.4.5 and 6.4.4.4), from behind their opening
+//! quote on.
 ghost use Rattle.std.specs.Prelude.{◌≡◌, ◌≤◌, ◌<◌, true, false, length, IfOk, OnOk, IfSome, ◌++◌, option_map, option_to_list};
 ghost use Rattle.c_tokens.specs.Quoted as text;
 
 use c_tree::Text;
 use std::alloc::{AllocError, Global};
 
-#[derive(Debug, Drop)]
+/// A string literal or a character constant.
+#[derive(Drop)]
 pub enum Quoted {
     /// The line or the file ends before the closing quote.
     Open,
@@ -15,18 +17,21 @@ pub enum Quoted {
     Closed(Text, usize),
 }
 
+/// Whether the byte begins an escape.
 fn escapes(escaped: bool, b: u8) -> bool
     ensures { result ≡ text.escapes escaped b }
 {
     b == b'\\' && !escaped
 }
 
+/// Whether the byte is the closing quote.
 fn closes(quote: u8, escaped: bool, b: u8) -> bool
     ensures { result ≡ text.closes quote escaped b }
 {
     b == quote && !escaped
 }
 
+/// How many bytes stand before the closing quote, which is on the same line.
 fn up_to_quote(quote: u8, rest: &[u8]) -> Option<usize>
     ensures count { result ≡ text.up_to_quote quote false rest.now }
     ensures within { IfSome result (λ n. n < length rest.now) }
@@ -44,6 +49,7 @@ fn up_to_quote(quote: u8, rest: &[u8]) -> Option<usize>
     None
 }
 
+/// The byte that an escape stands for: `\n`, `\t`, `\\`, `\"` or `\'`.
 fn escape(b: u8) -> Option<u8>
     ensures { result ≡ text.escape b }
 {
@@ -76,6 +82,7 @@ fn added(escaped: bool, b: u8) -> Option<Option<u8>>
     }
 }
 
+/// Appends the byte, if there is one.
 fn push_some(bytes: &mut Vec<u8>, more: Option<u8>) -> Result<(), AllocError>
     ensures { OnOk result (bytes.new.items ≡ bytes.old.items ++ option_to_list more) }
 {
@@ -85,6 +92,7 @@ fn push_some(bytes: &mut Vec<u8>, more: Option<u8>) -> Result<(), AllocError>
     Ok(())
 }
 
+/// The text that the bytes between the quotes stand for, if each may stand there.
 fn text_of(alloc: Global, body: &[u8]) -> Result<Option<Text>, AllocError>
     ensures { IfOk result (λ t. t ≡ text.text_of false body.now) }
 {
@@ -100,7 +108,7 @@ fn text_of(alloc: Global, body: &[u8]) -> Result<Option<Text>, AllocError>
     Ok(Some(Text::from_vec(bytes)))
 }
 
-/// A string or character constant behind its opening quote.
+/// A string literal or a character constant behind its opening quote, `quote`.
 pub fn constant(alloc: Global, quote: u8, rest: &[u8]) -> Result<Quoted, AllocError>
     ensures { IfOk result (λ q. q ≡ text.constant quote rest.now) }
 {

@@ -16,7 +16,8 @@ fn push_piece(
     piece: Piece,
 ) -> Result<Option<At<ReadCause>>, AllocError>
     requires { pieces.size_of piece < 2 ^ 32 }
-    ensures { IfOk result (λ why. text.before (text.scan lexemes.old.items None) (text.added at piece)
+    ensures { IfOk result (λ why.
+        text.before (text.scan lexemes.old.items None) (text.added at piece)
         ≡ text.scan lexemes.new.items why) }
 {
     match piece {

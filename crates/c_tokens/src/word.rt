@@ -1,8 +1,8 @@
-//! Words that are no names.
+//! Words that are no names (ISO C11, 6.4.1, and names of the library).
 ghost use Rattle.std.specs.Prelude.{◌≡◌, map};
 ghost use Rattle.c_tokens.specs.Word as text;
 
-/// The words with a meaning.
+/// The words with a meaning: keywords, and names of the library that have a form of their own.
 fn keywords() -> &'static [&'static [u8]]
     ensures { map (λ w. w.now) result.now ≡ text.keywords }
 {
@@ -64,6 +64,7 @@ fn left_out_words() -> &'static [&'static [u8]]
     ]
 }
 
+/// Whether the word is one of the words.
 fn is_among(words: &[&[u8]], word: &[u8]) -> bool
     ensures { result ≡ text.is_among (map (λ w. w.now) words.now) word.now }
 {

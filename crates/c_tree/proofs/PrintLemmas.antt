@@ -14,10 +14,14 @@ use Rattle.c_tree.specs.Names.{name_at, slot_name, field_name}
 use Rattle.c_tree.specs.Operators.{un_text, bin_text, binding, prefix_binding, whole_binding}
 use Rattle.c_tree.specs.MapExpr.{Reads}
 use Rattle.c_tree.specs.MapGlobals.{no_global}
+use Rattle.c_tree.specs.Step.{function_of, no_function}
 use Rattle.c_tree.specs.Shown.{strength, within, touches, sign, signed, spaced, shown}
 
 pub global_name : (p : Lifted) (g : ℕ) → name_at p 2 g ≡ (slice_index_or p.globals g no_global).name
 global_name p g = get_or-map (λ x. x.name) p.globals g no_global
+
+pub function_name : (p : Lifted) (i : ℕ) → name_at p 0 i ≡ (function_of p i).name
+function_name p i = get_or-map (λ x. x.name) p.functions i no_function
 
 pub shown-Num : (r : Reads) (n : ℤ) → shown r (Num n) ≡ signed_decimal n
 unfolding literals

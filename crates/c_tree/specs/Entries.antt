@@ -27,11 +27,12 @@ use Rattle.c_tree.specs.Link.{Link, Claim, linked, match_at}
 use Rattle.c_tree.specs.MapExpr.{Reads, only_globals, numbered}
 use Rattle.c_tree.specs.Suits.{site, kinds_differ, callees_differ, start_differs, reads_slots, reads_fields, suits_slot, suits_global, suits_check, has_twice}
 
--- all that is there, or none where one is missing
+-- a value before others, or none where it or one of them is missing
 abbrev pub both : {A : Type 0} → Option A → Option (List A) → Option (List A)
 both (Some x) (Some xs) = Some (x ∷ xs)
 both _ _ = None
 
+-- all values of a list, or none where one is missing
 abbrev pub all_there : {A : Type 0} → List (Option A) → Option (List A)
 all_there [] = Some []
 all_there (o ∷ rest) = both o (all_there rest)

@@ -10,7 +10,7 @@ use Rattle.c_tree.specs.declared.lifted.Slot.{Slot}
 use Rattle.c_tree.specs.declared.state.Trap.{Trap}
 use Rattle.c_tree.specs.declared.state.Trap.TheVariants as trap
 use Rattle.c_tree.specs.declared.event.Reason.{Reason}
-use Rattle.c_tree.specs.Value.{Scope, value}
+use Rattle.c_tree.specs.Value.{View, value}
 use Rattle.c_tree.specs.Scope.{is_same_name}
 use Rattle.c_tree.specs.Refusal.{onward}
 use Rattle.c_tree.specs.Link.{Link, is_image}
@@ -41,7 +41,7 @@ with_reason why (Ok x) = Ok x
 with_reason why (Err t) = Err (why (code t))
 
 -- the values of fillings, or the reason of the first that traps; the first filling has number i
-abbrev pub filled : Scope → (ℕ → ℕ → Reason) → ℕ → List LExpr → Result (List ℤ) Reason
+abbrev pub filled : View → (ℕ → ℕ → Reason) → ℕ → List LExpr → Result (List ℤ) Reason
 filled x because i [] = Ok []
 filled x because i (e ∷ rest) =
     onward (with_reason (because i) (value x e)) (λ v. onward (filled x because (i + 1) rest) (λ vs. Ok (v ∷ vs)))

@@ -1,5 +1,5 @@
 -- What each lifting of a well-typed program keeps, and all that is done with one rests on.
-use Rattle.std.specs.Prelude.{◌≡◌, ℕ, ◌+◌, ◌<◌, ◌≤◌, pos, Bool, true, false, ◌&&◌, is_some, IsTrue, if◌then◌else◌, ⊤, List, [], ◌∷◌, map, length, take, slice_get, sum, All, Option, Some, None, codes}
+use Rattle.std.specs.Prelude.{◌≡◌, ℕ, ◌+◌, ◌<◌, ◌≤◌, pos, Bool, true, false, ◌&&◌, is_some, IsTrue, if◌then◌else◌, ⊤, List, [], map, length, slice_get, sum, All, Option, Some, None, codes}
 use Rattle.std.specs.List.{AllZip, IsDistinct}
 use Rattle.c_tree.specs.declared.ty.Ty.{Ty}
 use Rattle.c_tree.specs.declared.ty.Ty.TheVariants as ty
@@ -21,8 +21,10 @@ use Rattle.c_tree.specs.declared.lifted.LStmt.TheBlock.{hidden-the_row-LStmt-0 a
 use Rattle.c_tree.specs.declared.lifted.LStmt.TheVariants as s
 use Rattle.c_tree.specs.Scope.{is_same_name}
 use Rattle.c_tree.specs.Types.{is_pointer}
+use Rattle.c_tree.specs.StartForm.{parameters_of, CanStart}
 use Rattle.c_tree.specs.Typing.{directives}
 use Rattle.c_tree.specs.Layout.{size_of}
+use Rattle.c_tree.specs.Limits.{max_functions, max_places, max_slots, max_length, max_words}
 
 -- the sorts of values; all pointers are of one sort
 pub data Sort : Type 0 where
@@ -38,46 +40,54 @@ sort_of_type ty.Void = None
 sort_of_type ty.AnyPtr = Some pointer
 sort_of_type (ty.Ptr name) = Some pointer
 
--- the sort of a slot or a field, of a global that is no array, and of an array's elements
+-- the sort of a slot's or a field's values
 abbrev pub sort_of_slot : Option Slot → Option Sort
 sort_of_slot None = None
 sort_of_slot (Some x) = sort_of_type x.ty
 
+-- the sort of a global that is no array; none of an array
 abbrev pub sort_of_scalar : Option LGlobal → Option Sort
 sort_of_scalar None = None
 sort_of_scalar (Some g) = if is_some g.count then None else sort_of_type g.ty
 
+-- the sort of an array's elements; none of a global that is no array
 abbrev pub sort_of_element : Option LGlobal → Option Sort
 sort_of_element None = None
 sort_of_element (Some g) = if is_some g.count then sort_of_type g.ty else None
 
+-- the fields of a struct; none where no struct is there
 abbrev pub fields_in : Option LStruct → List Slot
 fields_in None = []
 fields_in (Some x) = x.fields
 
--- which sorts an operator takes
+-- whether a value is an `int`
 abbrev pub is_int_sort : Option Sort → Bool
 is_int_sort (Some int) = true
 is_int_sort _ = false
 
+-- whether a value is a pointer
 abbrev pub is_pointer_sort : Option Sort → Bool
 is_pointer_sort (Some pointer) = true
 is_pointer_sort _ = false
 
+-- whether a value can be tested for 0: an `int` or a pointer
 abbrev pub is_testable_sort : Option Sort → Bool
 is_testable_sort (Some int) = true
 is_testable_sort (Some pointer) = true
 is_testable_sort _ = false
 
+-- whether `==` and `!=` take two values: two `int`s or two pointers
 abbrev pub are_alike_sorts : Option Sort → Option Sort → Bool
 are_alike_sorts (Some int) b = is_int_sort b
 are_alike_sorts (Some pointer) b = is_pointer_sort b
 are_alike_sorts _ b = false
 
+-- whether a prefix operator takes an operand of this sort
 abbrev pub takes_one : UnOp → Option Sort → Bool
 takes_one un.Not a = is_testable_sort a
 takes_one _ a = is_int_sort a
 
+-- whether a binary operator takes two sides of these sorts
 abbrev pub takes_two : BinOp → Option Sort → Option Sort → Bool
 takes_two bin.Eq a b = are_alike_sorts a b
 takes_two bin.Ne a b = are_alike_sorts a b
@@ -85,11 +95,13 @@ takes_two bin.And a b = is_testable_sort a && is_testable_sort b
 takes_two bin.Or a b = is_testable_sort a && is_testable_sort b
 takes_two _ a b = is_int_sort a && is_int_sort b
 
--- the sort of an expression beside these slots; none where an index lies outside, or an operand has another sort than is asked
+-- a sort, where a condition holds
 abbrev pub sort_if : Bool → Option Sort → Option Sort
 sort_if true a = a
 sort_if false a = None
 
+-- the sort of an expression beside these slots;
+-- none where an index lies outside, or an operand has another sort than is asked
 unfoldable pub sort_of : Lifted → List Slot → LExpr → Option Sort
 sort_of p slots (e.Num n) = Some int
 sort_of p slots e.Null = Some pointer
@@ -118,26 +130,20 @@ HasSort (Some a) b = b ≡ Some a
 abbrev pub AreArguments : Lifted → List Slot → List Slot → List LExpr → Type 0
 AreArguments p slots params args = AllZip (λ q x. HasSort (sort_of_type q.ty) (sort_of p slots x)) params args
 
-abbrev pub parameters_of : LFunction → List Slot
-parameters_of f = take f.params f.slots
-
 -- the result of a call has a place
 abbrev pub TakesResult : List Slot → Ty → Option ℕ → Type 0
 TakesResult slots ret None = ⊤
 TakesResult slots ret (Some k) = HasSort (sort_of_slot (slice_get slots k)) (sort_of_type ret)
 
+-- the function of a call is there, takes the arguments, and its result fits the slot that takes it
 abbrev pub IsCall : Lifted → List Slot → Option ℕ → Option LFunction → List LExpr → Type 0
 IsCall p slots to None args = ⊥
 IsCall p slots to (Some g) args = AreArguments p slots (parameters_of g) args × TakesResult slots g.ret to
 
--- `void *f(void *)`
-abbrev pub is_any_pointer : Ty → Bool
-is_any_pointer ty.AnyPtr = true
-is_any_pointer _ = false
-
+-- a function has the form `void *f(void *)`, which a thread can start
 abbrev pub HasStartForm : Option LFunction → Type 0
 HasStartForm None = ⊥
-HasStartForm (Some g) = (g.ret ≡ ty.AnyPtr) × (map (λ q. q.ty) (parameters_of g) ≡ ty.AnyPtr ∷ [])
+HasStartForm (Some g) = CanStart g
 
 -- a return has a value where the function gives one
 abbrev pub IsReturn : Lifted → List Slot → Ty → Option LExpr → Type 0
@@ -202,11 +208,11 @@ words_of g = words g.count where
 
 -- the counts keep the limits: 2,000 functions, 10,000 places and 128 slots a function, arrays of 1 to 65,536 words, and a million words of globals
 pub record IsWithinLimits (p : Lifted) : Type 0 where
-  pub functions : length p.functions ≤ 2000
-  pub places : All (λ f. size_of f.body + 2 ≤ 10000) p.functions
-  pub slots : All (λ f. length f.slots ≤ 128) p.functions
-  pub arrays : All (λ g. (0 < words_of g) × (words_of g ≤ 65536)) p.globals
-  pub words : sum (map words_of p.globals) ≤ 1000000
+  pub functions : length p.functions ≤ max_functions
+  pub places : All (λ f. size_of f.body + 2 ≤ max_places) p.functions
+  pub slots : All (λ f. length f.slots ≤ max_slots) p.functions
+  pub arrays : All (λ g. (0 < words_of g) × (words_of g ≤ max_length)) p.globals
+  pub words : sum (map words_of p.globals) ≤ max_words
 
 -- no two names are the same
 abbrev pub AreDifferent : List (List ℕ) → Type 0
@@ -233,6 +239,7 @@ abbrev pub IsMain : Option LFunction → Type 0
 IsMain None = ⊥
 IsMain (Some f) = (f.ret ≡ ty.Int) × (f.params ≡ 0) × (is_same_name f.name (codes "main") ≡ true)
 
+-- the program's `main` is there and has the form of one
 abbrev pub HasMain : Lifted → Type 0
 HasMain p = IsMain (slice_get p.functions p.main)
 
@@ -240,9 +247,15 @@ HasMain p = IsMain (slice_get p.functions p.main)
 abbrev pub PointersStartNull : Lifted → Type 0
 PointersStartNull p = All (λ g. is_pointer g.ty ≡ true → g.init ≡ pos 0) p.globals
 
+-- an array starts as zeros
+abbrev pub ArraysStartAtZero : Lifted → Type 0
+ArraysStartAtZero p = All (λ g. is_some g.count ≡ true → g.init ≡ pos 0) p.globals
+
+-- in each function, `break` and `continue` stand inside loops
 abbrev pub LoopsAreKept : Lifted → Type 0
 LoopsAreKept p = All (λ f. StayInLoop false (row_of f.body)) p.functions
 
+-- each `printf` of a program has the arguments that its text asks
 abbrev pub HasFittingPrints : Lifted → Type 0
 HasFittingPrints p = All (λ f. PrintsFit (row_of f.body)) p.functions
 
@@ -250,6 +263,7 @@ HasFittingPrints p = All (λ f. PrintsFit (row_of f.body)) p.functions
 abbrev pub HasSorts : Lifted → Type 0
 HasSorts p = All (λ f. HaveSortsIn p f.slots f.ret (row_of f.body)) p.functions
 
+-- the form of each lifting of a well-typed program, on which its runs and updates rest
 pub record IsFormed (p : Lifted) : Type 0 where
   pub limits : IsWithinLimits p
   pub names : HasDifferentNames p
@@ -257,6 +271,7 @@ pub record IsFormed (p : Lifted) : Type 0 where
   pub parameters : ParametersComeFirst p
   pub main : HasMain p
   pub starts : PointersStartNull p
+  pub arrays : ArraysStartAtZero p
   pub loops : LoopsAreKept p
   pub prints : HasFittingPrints p
   pub sorts : HasSorts p

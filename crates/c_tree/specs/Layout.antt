@@ -11,6 +11,7 @@ use Rattle.c_tree.specs.declared.place.Exits.{Exits}
 use Rattle.c_tree.specs.declared.place.Follow.{Follow}
 use Rattle.c_tree.specs.declared.place.Follow.TheVariants.{One, Two, Leaves}
 
+-- a place: what is done there, and where it goes on
 abbrev pub place : Act → Follow → Place
 place act follow = record { act = act; follow = follow }
 
@@ -62,13 +63,15 @@ unfoldable mutual
   layouts x n next end_of-LStmt = []
   layouts x n next (more_of-LStmt s rest) = layout x n (enters x (n + count s) next rest) s ++ layouts x (n + count s) next rest
 
--- a block as the row that the definitions above recur over
+-- the number of places in a block
 abbrev pub size_of : List LStmt → ℕ
 size_of body = counts (row_of body)
 
+-- the place where a block at n begins, which `next` follows
 abbrev pub start_of : Exits → ℕ → ℕ → List LStmt → ℕ
 start_of x n next body = enters x n next (row_of body)
 
+-- the places of a block from n on, which `next` follows
 abbrev pub layout_of : Exits → ℕ → ℕ → List LStmt → List Place
 layout_of x n next body = layouts x n next (row_of body)
 

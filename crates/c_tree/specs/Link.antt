@@ -5,23 +5,12 @@ use Rattle.std.specs.List.{list_any, enumerate_from, position_from, flat_map}
 use Rattle.c_tree.specs.declared.ty.Ty.{Ty}
 use Rattle.c_tree.specs.declared.ty.Ty.TheVariants as ty
 use Rattle.c_tree.specs.declared.lifted.Lifted.{Lifted}
-use Rattle.c_tree.specs.declared.lifted.LFunction.{LFunction}
-use Rattle.c_tree.specs.declared.lifted.Slot.{Slot}
 use Rattle.c_tree.specs.declared.mapping.LEntry.{LEntry}
 use Rattle.c_tree.specs.declared.mapping.LEntry.TheVariants as entry
 use Rattle.c_tree.specs.Scope.{is_same_type}
-use Rattle.c_tree.specs.Types.{is_any_pointer}
+use Rattle.c_tree.specs.StartForm.{is_start}
 use Rattle.c_tree.specs.Step.{function_of}
 use Rattle.c_tree.specs.Names.{is_number, find_name, names_in, struct_of}
-
--- whether a first parameter is a `void *`
-abbrev pub takes_pointer : List Slot → Bool
-takes_pointer [] = false
-takes_pointer (x ∷ rest) = is_any_pointer x.ty
-
--- whether a function has the form `void *f(void *)`, so that a thread can start it
-abbrev pub is_start : LFunction → Bool
-is_start f = is_any_pointer f.ret && f.params == 1 && takes_pointer f.slots
 
 -- what a match entry names, as far as it is there, and whether the entry is sound
 pub record Claim : Type 0 where

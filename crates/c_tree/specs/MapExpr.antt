@@ -28,11 +28,12 @@ pub record Reads : Type 0 where
   pub slots : List Slot
   pub own : List Slot
 
--- the slots of a function, and the fields of a struct, where one is given
+-- the slots of a function, where one is given
 abbrev pub slots_of : Lifted → Option ℕ → List Slot
 slots_of p None = []
 slots_of p (Some f) = (function_of p f).slots
 
+-- the fields of a struct, where one is given
 abbrev pub fields_of : Lifted → Option ℕ → List Slot
 fields_of p None = []
 fields_of p (Some owner) = (struct_of p owner).fields

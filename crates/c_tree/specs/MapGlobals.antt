@@ -9,7 +9,7 @@ use Rattle.c_tree.specs.declared.mapping.LEntry.TheVariants as n
 use Rattle.c_tree.specs.declared.state.State.{State}
 use Rattle.c_tree.specs.declared.event.Reason.{Reason}
 use Rattle.c_tree.specs.declared.event.Reason.TheVariants as why
-use Rattle.c_tree.specs.Value.{Scope, scope, value}
+use Rattle.c_tree.specs.Value.{View, view, value}
 use Rattle.c_tree.specs.Refusal.{onward, first_some}
 use Rattle.c_tree.specs.Link.{Link, origin, is_image}
 use Rattle.c_tree.specs.Fillings.{with_reason}
@@ -48,12 +48,12 @@ abbrev pub resized : ℕ → List ℤ → List ℤ
 resized n values = take n values ++ replicate (n - length values) (pos 0)
 
 -- what an expression over globals reads, in the old state
-abbrev pub global_scope : State → Scope
-global_scope s = scope [] [] s.globals s.heap.objects
+abbrev pub global_view : State → View
+global_view s = view [] [] s.globals s.heap.objects
 
 -- the value of a scalar, or the reason that its expression traps
 abbrev pub map_scalar : State → ℕ → LExpr → Result (List ℤ) Reason
-map_scalar s g x = onward (with_reason (λ c. why.Global g c) (value (global_scope s) x)) (λ v. Ok (v ∷ []))
+map_scalar s g x = onward (with_reason (λ c. why.Global g c) (value (global_view s) x)) (λ v. Ok (v ∷ []))
 
 -- a new global by the old one whose values it takes; an array takes as many as it has room for
 abbrev pub map_global_by : List LEntry → State → ℕ → LGlobal → Option ℕ → Option ℕ → Result (List ℤ) Reason

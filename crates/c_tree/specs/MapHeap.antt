@@ -10,7 +10,7 @@ use Rattle.c_tree.specs.declared.state.Object.{Object}
 use Rattle.c_tree.specs.declared.state.State.{State}
 use Rattle.c_tree.specs.declared.event.Reason.{Reason}
 use Rattle.c_tree.specs.declared.event.Reason.TheVariants as why
-use Rattle.c_tree.specs.Value.{Scope, scope}
+use Rattle.c_tree.specs.Value.{View, view}
 use Rattle.c_tree.specs.Refusal.{onward, unless_refused, first_some}
 use Rattle.c_tree.specs.Names.{struct_of}
 use Rattle.c_tree.specs.Link.{Link, match_at}
@@ -37,14 +37,14 @@ removed k i [] = None
 removed k i (o ∷ rest) = if is_removed k o then Some (why.Removed i) else removed k (i + 1) rest
 
 -- what the expressions of an object read, in the old state
-abbrev pub object_scope : State → Object → Scope
-object_scope s o = scope [] o.fields s.globals s.heap.objects
+abbrev pub object_view : State → Object → View
+object_view s o = view [] o.fields s.globals s.heap.objects
 
 -- an object of a struct that has a match
 abbrev pub map_object_to : Link → List LEntry → State → ℕ → Object → Option ℕ → Result (Option Object) Reason
 map_object_to k entries s i o None = Err (why.Removed i)
 map_object_to k entries s i o (Some owner) =
-    onward (filled (object_scope s o) (λ j c. why.Field i j c) 0 (field_fillings k entries o.owner owner)) (λ vs.
+    onward (filled (object_view s o) (λ j c. why.Field i j c) 0 (field_fillings k entries o.owner owner)) (λ vs.
     Ok (Some (record { owner = owner; fields = vs })))
 
 -- an object; a freed one stays freed

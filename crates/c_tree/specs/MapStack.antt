@@ -13,8 +13,8 @@ use Rattle.c_tree.specs.declared.state.Frame.{Frame}
 use Rattle.c_tree.specs.declared.state.State.{State}
 use Rattle.c_tree.specs.declared.event.Reason.{Reason}
 use Rattle.c_tree.specs.declared.event.Reason.TheVariants as why
-use Rattle.c_tree.specs.Value.{Scope, scope}
-use Rattle.c_tree.specs.Step.{function_of}
+use Rattle.c_tree.specs.Value.{View}
+use Rattle.c_tree.specs.Step.{function_of, view_of}
 use Rattle.c_tree.specs.Refusal.{onward, unless_refused}
 use Rattle.c_tree.specs.Points.{is_kind, kind_in}
 use Rattle.c_tree.specs.Link.{Link, match_at}
@@ -70,24 +70,20 @@ unmapped k entries t i (f ∷ rest) =
     if is_none (parts_at k entries f.function f.place) then Some (why.Unmapped t i) else unmapped k entries t (i + 1) rest
 
 -- the frames of parts; slots are numbered through all parts
-abbrev pub part_frames : Scope → (ℕ → ℕ → Reason) → ℕ → List Part → Result (List Frame) Reason
+abbrev pub part_frames : View → (ℕ → ℕ → Reason) → ℕ → List Part → Result (List Frame) Reason
 part_frames x because i [] = Ok []
 part_frames x because i (p ∷ rest) =
     onward (filled x because i p.fillings) (λ vs. onward (part_frames x because (i + length p.fillings) rest) (λ fs.
     Ok (record { function = p.function; place = p.place; slots = vs } ∷ fs)))
 
 -- the frames of parts that are there, or the reason that a frame has no map
-abbrev pub frames_by : Option (List Part) → Scope → ℕ → ℕ → Result (List Frame) Reason
+abbrev pub frames_by : Option (List Part) → View → ℕ → ℕ → Result (List Frame) Reason
 frames_by None x t i = Err (why.Unmapped t i)
 frames_by (Some parts) x t i = part_frames x (λ j c. why.Slot t i j c) 0 parts
 
--- what the expressions of a frame read, in the old state
-abbrev pub frame_scope : State → Frame → Scope
-frame_scope s f = scope f.slots [] s.globals s.heap.objects
-
 -- a frame becomes the frames of its parts
 abbrev pub map_frame : Link → List LEntry → State → ℕ → ℕ → Frame → Result (List Frame) Reason
-map_frame k entries s t i f = frames_by (parts_at k entries f.function f.place) (frame_scope s f) t i
+map_frame k entries s t i f = frames_by (parts_at k entries f.function f.place) (view_of s f) t i
 
 -- so do frames, of which the first has number i
 abbrev pub map_frames : Link → List LEntry → State → ℕ → ℕ → List Frame → Result (List Frame) Reason

@@ -53,9 +53,10 @@ binding bin.Mul = 9
 binding bin.Div = 9
 binding bin.Rem = 9
 
--- that of a prefix operator, and that of names, numbers, indices and fields, which never need parentheses
+-- the strength of a prefix operator, which binds more than each binary one
 abbrev pub prefix_binding : ℕ
 prefix_binding = 10
 
+-- the strength of names, numbers, indices and fields, which never need parentheses
 abbrev pub whole_binding : ℕ
 whole_binding = 11

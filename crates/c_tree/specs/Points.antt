@@ -31,9 +31,11 @@ kind_of (Do (s.Join e)) = kind.Block
 kind_of (Do (s.Call d f args)) = kind.Call
 kind_of _ = kind.Plain
 
+-- the kind of the place of a number
 abbrev pub kind_at : List Place → ℕ → PlaceKind
 kind_at places n = kind_of (nth places n).act
 
+-- whether two kinds are the same
 abbrev pub is_kind : PlaceKind → PlaceKind → Bool
 is_kind kind.Entry kind.Entry = true
 is_kind kind.LoopEnd kind.LoopEnd = true
@@ -63,10 +65,11 @@ kth numbers (suc k) = slice_get numbers k
 abbrev pub find_place : List Place → PlaceKind → ℕ → Option ℕ
 find_place places kind k = kth (of_kind kind places) k
 
--- the place of a function that a point names, and the point of a place
+-- the place of a function that a point names
 abbrev pub place_of : LFunction → Pt → Option ℕ
 place_of f pt = find_place (places f) pt.kind pt.number
 
+-- the point of a function's place: its kind, and its number among that kind, from 1
 abbrev pub point_of : LFunction → ℕ → Pt
 point_of f n = record { kind = kind_at (places f) n; number = number_of (places f) n }
 
@@ -74,11 +77,12 @@ point_of f n = record { kind = kind_at (places f) n; number = number_of (places 
 abbrev pub kind_in : LFunction → ℕ → PlaceKind
 kind_in f n = kind_at (places f) n
 
--- the function that is called at a place
+-- the function that is called where this is done
 abbrev pub callee_in : Act → Option ℕ
 callee_in (Do (s.Call to f args)) = Some f
 callee_in _ = None
 
+-- the function that is called at a place of a function
 abbrev pub callee_at : LFunction → ℕ → Option ℕ
 callee_at f n = callee_in (nth (places f) n).act
 

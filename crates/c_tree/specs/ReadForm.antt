@@ -4,6 +4,9 @@ use Rattle.std.specs.List.{list_all}
 use Rattle.c_tree.specs.declared.ty.Ty.{Ty}
 use Rattle.c_tree.specs.declared.ty.Ty.TheVariants as ty
 use Rattle.c_tree.specs.declared.program.Program.{Program}
+use Rattle.c_tree.specs.declared.program.At.{At}
+use Rattle.c_tree.specs.declared.program.Const.{Const}
+use Rattle.c_tree.specs.declared.program.Count.{Count}
 use Rattle.c_tree.specs.declared.program.Struct.{Struct}
 use Rattle.c_tree.specs.declared.program.Field.{Field}
 use Rattle.c_tree.specs.declared.program.GlobalDecl.{GlobalDecl}
@@ -16,14 +19,16 @@ use Rattle.c_tree.specs.declared.program.StmtKind.TheBlock.{hidden-the_row-Stmt-
 use Rattle.c_tree.specs.declared.program.StmtKind.TheVariants as s
 use Rattle.c_tree.specs.Lifting.{body_of}
 
--- a name has one byte at least, and all of them are letters, digits or `_`
+-- whether a byte is a letter, a digit or `_`
 abbrev pub is_name_byte : ℕ → Bool
 is_name_byte b = nat_le 65 b && nat_le b 90 || nat_le 97 b && nat_le b 122 || nat_le 48 b && nat_le b 57 || b == 95
 
+-- whether a text has the bytes of a name: one at least, each a letter, a digit or `_`
 abbrev pub is_name : List ℕ → Bool
 is_name [] = false
 is_name (b ∷ rest) = is_name_byte b && list_all is_name_byte rest
 
+-- a text has the bytes of a name
 abbrev pub IsName : List ℕ → Type 0
 IsName name = IsTrue (is_name name)
 
@@ -74,15 +79,17 @@ unfoldable mutual
   AreReadExprs end_of-Expr = ⊤
   AreReadExprs (more_of-Expr _ x rest) = IsReadExpr x × AreReadExprs rest
 
+-- an expression that may be absent has the form that is read
 abbrev pub IsReadValue : Option Expr → Type 0
 IsReadValue None = ⊤
 IsReadValue (Some x) = IsReadExpr x.kind
 
--- a declaration stands in a block or at the start of a `for`
+-- a statement is a declaration, which stands in a block or at the start of a `for`
 abbrev pub IsDeclaration : StmtKind → Type 0
 IsDeclaration (s.Declare t name value) = ⊤
 IsDeclaration _ = ⊥
 
+-- a statement is no declaration, as the body of an `if` or a loop is none
 abbrev pub IsNoDeclaration : StmtKind → Type 0
 IsNoDeclaration (s.Declare t name value) = ⊥
 IsNoDeclaration _ = ⊤
@@ -95,6 +102,7 @@ IsSimple (s.Free x) = ⊤
 IsSimple (s.Print text args) = ⊤
 IsSimple _ = ⊥
 
+-- all statements of a list are declarations
 abbrev pub AreDeclarations : {m : _} → Row_of-Stmt m → Type 0
 AreDeclarations end_of-Stmt = ⊤
 AreDeclarations (more_of-Stmt _ kind rest) = IsDeclaration kind × AreDeclarations rest
@@ -134,19 +142,28 @@ unfoldable mutual
   IsReadStep None' = ⊤
   IsReadStep (Some' _ (one _ kind _)) = IsSimple kind × IsReadStmt kind
 
--- a field or a parameter, a struct, a global and a function
+-- a field or a parameter has a name, and a type that values have
 abbrev pub IsReadField : Field → Type 0
 IsReadField q = IsName q.name.it × IsValueType q.ty
 
+-- a struct has a name, and its fields have the form that is read
 abbrev pub IsReadStruct : Struct → Type 0
 IsReadStruct d = IsName d.name.it × All IsReadField d.fields
 
-abbrev pub IsReadGlobal : GlobalDecl → Type 0
-IsReadGlobal g = IsName g.name.it × IsValueType g.ty
+-- an array has no initialiser
+abbrev pub HasNoStart : Option (At Count) → Option (At Const) → Type 0
+HasNoStart (Some n) (Some x) = ⊥
+HasNoStart _ _ = ⊤
 
+-- a global has a name, and a type that values have
+abbrev pub IsReadGlobal : GlobalDecl → Type 0
+IsReadGlobal g = IsName g.name.it × IsValueType g.ty × HasNoStart g.count g.init
+
+-- a function has a name, and its parameters and its body have the form that is read
 abbrev pub IsReadFunction : Function → Type 0
 IsReadFunction f = IsName f.name.it × All IsReadField f.params × AreReadStmts (row_of (body_of f.body))
 
+-- all declarations of a program have the form that is read from a source
 pub record HasReadForm (p : Program) : Type 0 where
   pub structs : All IsReadStruct p.structs
   pub globals : All IsReadGlobal p.globals

@@ -11,7 +11,8 @@ use Rattle.c_tree.specs.Types.{is_int}
 use Rattle.c_tree.specs.Step.{function_of}
 use Rattle.c_tree.specs.Names.{is_number, same_number}
 use Rattle.c_tree.specs.Points.{is_kind, kind_in, callee_at}
-use Rattle.c_tree.specs.Link.{Link, is_start, match_at, origin}
+use Rattle.c_tree.specs.StartForm.{is_start}
+use Rattle.c_tree.specs.Link.{Link, match_at, origin}
 use Rattle.c_tree.specs.MapExpr.{Reads, reads_of, only_globals, type_in, fills_type, passes, scalar_type}
 
 -- a function that can be started goes to one that cannot

@@ -7,7 +7,7 @@ use std::alloc::AllocError;
 use std::marker::Model;
 
 /// An input, of which some bytes were read. Contracts see the bytes that are left.
-#[derive(Debug, Drop)]
+#[derive(Drop)]
 pub struct Input {
     bytes: Vec<u8>,
     /// How many bytes were read.

@@ -9,6 +9,7 @@ ghost use Rattle.c_tree.specs.Shown as spec;
 ghost use Rattle.c_tree.specs.Printing.{reads};
 
 use crate::lifted::{LExpr, Lifted, Slot};
+use crate::names::slot_name;
 use crate::op::{BinOp, UnOp};
 use crate::text::Text;
 use itoa::Buffer;
@@ -74,15 +75,6 @@ fn fields(program: &Lifted, owner: Option<u32>) -> &[Slot]
     }
 }
 
-fn slot_name(slots: &[Slot], slot: u32) -> &[u8]
-    ensures { result.now ≡ names.slot_name slots.now slot }
-{
-    match slots.get(slot as usize) {
-        Some(slot) => slot.name.as_bytes(),
-        None => &[],
-    }
-}
-
 #[tactic(auto, using(crate::proofs::PrintLemmas::global_name))]
 fn global_name(program: &Lifted, global: u32) -> &[u8]
     ensures { result.now ≡ names.name_at program.now 2 global }
@@ -99,41 +91,6 @@ fn field_name(program: &Lifted, owner: u32, field: u32) -> &[u8]
     match program.structs.as_slice().get(owner as usize) {
         Some(owner) => slot_name(owner.fields.as_slice(), field),
         None => &[],
-    }
-}
-
-fn prefix_text(op: UnOp) -> &'static [u8]
-    ensures { result.now ≡ operators.un_text op }
-{
-    match op {
-        UnOp::Neg => b"-",
-        UnOp::Not => b"!",
-        UnOp::Flip => b"~",
-    }
-}
-
-fn operator_text(op: BinOp) -> &'static [u8]
-    ensures { result.now ≡ operators.bin_text op }
-{
-    match op {
-        BinOp::Mul => b"*",
-        BinOp::Div => b"/",
-        BinOp::Rem => b"%",
-        BinOp::Add => b"+",
-        BinOp::Sub => b"-",
-        BinOp::Shl => b"<<",
-        BinOp::Shr => b">>",
-        BinOp::Lt => b"<",
-        BinOp::Le => b"<=",
-        BinOp::Gt => b">",
-        BinOp::Ge => b">=",
-        BinOp::Eq => b"==",
-        BinOp::Ne => b"!=",
-        BinOp::BitAnd => b"&",
-        BinOp::BitXor => b"^",
-        BinOp::BitOr => b"|",
-        BinOp::And => b"&&",
-        BinOp::Or => b"||",
     }
 }
 
@@ -200,7 +157,7 @@ fn first_byte(names: &Names<'_>, expr: &LExpr) -> Option<u8>
             first_of_operand(names, WHOLE, pointer.get()).or(Some(b'-'))
         }
         LExpr::Own(field) => slot_name(names.own, *field).first().copied(),
-        LExpr::Un(op, _) => prefix_text(*op).first().copied(),
+        LExpr::Un(op, _) => op.text().first().copied(),
         LExpr::Bin(op, left, _) => {
             first_of_operand(names, binding(*op), left.get()).or(Some(b' '))
         }
@@ -306,7 +263,7 @@ fn append_sign(op: UnOp, touches: bool, out: &mut Vec<u8>) -> Result<(), AllocEr
     ensures { OnOk result (out.new.items
         ≡ out.old.items ++ spec.sign (operators.un_text op) touches) }
 {
-    out.extend_from_slice(prefix_text(op))?;
+    out.extend_from_slice(op.text())?;
     if touches {
         out.extend_from_slice(b" ")?;
     }
@@ -319,6 +276,6 @@ fn append_operator(op: BinOp, out: &mut Vec<u8>) -> Result<(), AllocError>
         ≡ out.old.items ++ spec.spaced (operators.bin_text op)) }
 {
     out.extend_from_slice(b" ")?;
-    out.extend_from_slice(operator_text(op))?;
+    out.extend_from_slice(op.text())?;
     out.extend_from_slice(b" ")
 }

@@ -83,8 +83,8 @@ fn globals(alloc: Global, gs: &[LGlobal]) -> Result<Row<Row<i32>>, AllocError>
 }
 
 impl State {
-    /// The state in which a program starts: the initialisers, no objects, free mutexes, no output, and
-    /// thread 0 with one frame of `main` at its entry.
+    /// The state in which a program starts: the initialisers, no objects, free mutexes, no output,
+    /// and thread 0 with one frame of `main` at its entry.
     pub fn start(alloc: Global, program: &Lifted, input: &Text) -> Result<State, AllocError>
         ensures { IfOk result (λ s. s ≡ spec.start program.now input.now) }
     {

@@ -9,7 +9,7 @@ use Rattle.c_tree.specs.declared.run.End.{End}
 use Rattle.c_tree.specs.declared.run.Picker.{Picker}
 use Rattle.c_tree.specs.declared.run.Settings.{Settings}
 use Rattle.c_tree.specs.Run.{Core, over, next, threads, is_due, may_park, may_decide, may_resume}
-use Rattle.c_tree.specs.Plan.{Way, advance, chosen, picked, picker_after, by_none, where_so, outcome, with_choice, with_event}
+use Rattle.c_tree.specs.Plan.{Progress, advance, chosen, picked, picker_after, by_none, where_so, outcome, with_choice, with_event}
 
 while_none : (o : Option End) (x y : Option EventKind) → o ≡ None → x ≡ y → (elim o as (λ _. Option EventKind) [ None ↦ x | Some z ↦ None ]) ≡ y
 while_none None x y h e = e
@@ -20,7 +20,7 @@ pub advance-by : (k : Settings) (short : Bool) (c c2 : Core) (g : Picker) (es : 
     → advance k short (record { core = c; picker = g; events = es }) ≡ record { core = c2; picker = picker_after g kind; events = es ++ by_none kind ∷ [] }
 unfolding advance
 advance-by k short c c2 g es kind o p m =
-    let w : Way = record { core = c; picker = g; events = es } in
+    let w : Progress = record { core = c; picker = g; events = es } in
     ap (λ x. with_choice k w x) (while_none (over k c) (chosen k short c g) (Some kind) o p)
     ∙ ap (λ d. with_event w kind d) m
 

@@ -11,13 +11,12 @@ use Rattle.c_tree.specs.declared.run.Picker.TheVariants.{Round, Seed}
 use Rattle.c_tree.specs.Able.{standing}
 use Rattle.c_tree.specs.Step.{step}
 use Rattle.c_tree.specs.Run as r
-use Rattle.c_tree.specs.Plan.{Way, chosen, picked, picker_after, outcome, by_none}
+use Rattle.c_tree.specs.Plan.{Progress, chosen, picked, picker_after, outcome, by_none}
 use Rattle.c_tree.proofs.ThreadLemmas.{step_few}
 use Rattle.world_core.specs.declared.decision.Committed.{Committed}
 use Rattle.world_core.specs.declared.decision.Committed.TheVariants as committed
 use Rattle.world_core.specs.Decision as decision
 use Rattle.world_core.specs.History.{History, core, over, IsMade}
-use Rattle.drive.specs.Driven.{is_short}
 use Rattle.drive.specs.Measure.{measure}
 use Rattle.drive.specs.OnWay.{IsLow, IsKept, Agrees, IsOnward}
 use Rattle.drive.proofs.CameLemmas.{phase_of, request_came, park_came, resume_came, outcome_came, step_gives}
@@ -46,8 +45,8 @@ onward h h2 g g2 kind m o ch p w l a less =
       more = ap (λ x. length x.events) m.ok ∙ length-append h.events (by_none kind ∷ []);
       earlier = a;
       way = λ short b. advance-by h.settings short (core h) (core h2) g h.events kind o (ch short b) m.core
-          ∙ (ap (λ x. let v : Way = record { core = core h2; picker = x; events = h.events ++ by_none kind ∷ [] } in v) p
-          ∙ ap (λ es. let v : Way = record { core = core h2; picker = g2; events = es } in v) (sym (ap (λ x. x.events) m.ok)));
+          ∙ (ap (λ x. let v : Progress = record { core = core h2; picker = x; events = h.events ++ by_none kind ∷ [] } in v) p
+          ∙ ap (λ es. let v : Progress = record { core = core h2; picker = g2; events = es } in v) (sym (ap (λ x. x.events) m.ok)));
       less = less;
     }
 
@@ -100,7 +99,7 @@ after_phase : (c : Committed) → r.is_after (phase_of c) ≡ true
 after_phase committed.Updated = refl
 after_phase (committed.Refused x) = refl
 
-short_phase : (c : Committed) → is_short (phase_of c) ≡ decision.is_short c
+short_phase : (c : Committed) → r.is_refused_for_memory (phase_of c) ≡ decision.is_short c
 short_phase committed.Updated = refl
 short_phase (committed.Refused x) = refl
 
@@ -114,7 +113,7 @@ onward-outcome h h2 g done o w l d f a m out =
     onward h h2 g g (decision.kind_of done) m o
     (λ short b. chosen-outcome h.settings short c g d f a
     ∙ ap (λ x. let y : Option EventKind = Some x in y)
-    (ap (λ s. outcome h.settings s c) (b (ap r.is_after came.phase ∙ after_phase done) ∙ (ap is_short came.phase ∙ short_phase done)) ∙ sym out))
+    (ap (λ s. outcome h.settings s c) (b (ap r.is_after came.phase ∙ after_phase done) ∙ (ap r.is_refused_for_memory came.phase ∙ short_phase done)) ∙ sym out))
     (after_outcome g done)
     (kept_came c (core h2) (phase_of done) c.parked came (after_not_before (phase_of done) (after_phase done)) w.made w.few) l
     (λ short b. free short c.phase (ap r.is_after asked))

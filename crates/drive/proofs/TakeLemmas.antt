@@ -69,7 +69,7 @@ bad-outcome h e.Request i m = absurd i
 bad-outcome h (e.Park t) i m = absurd i
 bad-outcome h (e.Resume t) i m = absurd i
 bad-outcome h e.Update i m = stop_if (over h) (r.may_decide (core h)) (r.updated h.settings (core h) (r.decided h.settings (core h))) m
-bad-outcome h (e.Refuse x) i m = none_listed (r.is_memory x) _ (stop_and (over h) (r.may_decide (core h)) (r.is_memory x || r.refuses x (r.decided h.settings (core h))) _ m)
+bad-outcome h (e.Refuse x) i m = none_listed (r.is_memory x) _ (stop_and (over h) (r.may_decide (core h)) (r.may_refuse h.settings (core h) x) _ m)
 
 -- an outcome that the update doesn't come to
 number_is : (a b : ℕ) → (a == b) ≡ true → a ≡ b
@@ -109,12 +109,13 @@ no_update None true k c (Err y) reason h = refl
 no_update None false k c x reason h = refl
 no_update (Some y) b k c x reason h = refl
 
-not_refused : (o : Option End) (a m b : Bool) (c : r.Core) → m ≡ false → b ≡ false → r.while_on o (r.legal (a && (m || b)) c) ≡ None
-not_refused (Some y) a m b c h i = refl
-not_refused None true true b c h i = cc
-not_refused None true false true c h i = cc
-not_refused None true false false c h i = refl
-not_refused None false m b c h i = refl
+not_refused : (o : Option End) (a f m b : Bool) (c : r.Core) → m ≡ false → b ≡ false → r.while_on o (r.legal (a && (f && (m || b))) c) ≡ None
+not_refused (Some y) a f m b c h i = refl
+not_refused None true true true b c h i = cc
+not_refused None true true false true c h i = cc
+not_refused None true true false false c h i = refl
+not_refused None true false m b c h i = refl
+not_refused None false f m b c h i = refl
 
 unlike : (x y : Reason) (b : Bool) → r.is_same_reason x y ≡ b → (x ≡ y → ⊥) → b ≡ false
 unlike x y true h n = absurd (n (same_reason x y h))
@@ -139,8 +140,8 @@ unlike-outcome h (decision.Refused reason) e.Update i x m n =
     no_update (over h) (r.may_decide (core h)) h.settings (core h) (r.decided h.settings (core h)) reason (decided_is h reason x m)
 unlike-outcome h (decision.Updated parts new) (e.Refuse y) i x m n =
     none_unless (r.is_memory y) _
-    (λ q. not_refused (over h) (r.may_decide (core h)) (r.is_memory y) (r.refuses y (r.decided h.settings (core h))) _ q (ap (r.refuses y) x.0))
+    (λ q. not_refused (over h) (r.may_decide (core h)) (is_some h.settings.armed) (r.is_memory y) (r.refuses y (r.decided h.settings (core h))) _ q (ap (r.refuses y) x.0))
 unlike-outcome h (decision.Refused reason) (e.Refuse y) i x m n =
     none_unless (r.is_memory y) _
-    (λ q. not_refused (over h) (r.may_decide (core h)) (r.is_memory y) (r.refuses y (r.decided h.settings (core h))) _ q
+    (λ q. not_refused (over h) (r.may_decide (core h)) (is_some h.settings.armed) (r.is_memory y) (r.refuses y (r.decided h.settings (core h))) _ q
     (ap (r.refuses y) (decided_is h reason x m) ∙ other y reason n))

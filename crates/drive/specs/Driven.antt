@@ -1,12 +1,10 @@
 -- What the answer of a plan says of the run.
-use Rattle.std.specs.Prelude.{◌≡◌, ◌-◌, Bool, take, true, false, Some, None}
-use Rattle.c_tree.specs.declared.run.Phase.{Phase}
-use Rattle.c_tree.specs.declared.run.Phase.TheVariants as phase
+use Rattle.std.specs.Prelude.{◌≡◌, ◌-◌, take, true, Some, None}
 use Rattle.c_tree.specs.declared.run.Picker.{Picker}
 use Rattle.c_tree.specs.declared.run.Picker.TheVariants as picker
 use Rattle.c_tree.specs.declared.run.Settings.{Settings}
 use Rattle.c_tree.specs.Plan.{IsPlanned, refused_at}
-use Rattle.c_tree.specs.Run.{first, is_memory}
+use Rattle.c_tree.specs.Run.{first, is_short}
 use Rattle.history.specs.declared.listing.Listing.{Listing}
 use Rattle.world_core.specs.History.{History, core, over}
 use Rattle.drive.specs.declared.list.Driven.{Driven}
@@ -14,17 +12,10 @@ use Rattle.drive.specs.declared.list.Driven.TheVariants.{Ended, ListRefused}
 use Rattle.drive.specs.declared.plan.Plan.{Plan}
 use Rattle.drive.specs.declared.plan.Plan.TheVariants as plan
 
--- whether the update was refused for want of memory
-abbrev pub is_short : Phase → Bool
-is_short phase.Before = false
-is_short phase.Asked = false
-is_short phase.Updated = false
-is_short (phase.Refused r) = is_memory r
-
 -- the run is over, and its events are those of the picker: a picker's plan is never refused. Where memory was short, they are those
 -- with that refusal as the outcome of the update
 abbrev pub IsPicked : Picker → Settings → History → Driven → Type 0
-IsPicked start k h (Ended end) = (over h ≡ Some end) × IsPlanned k (is_short (core h).phase) start h.events
+IsPicked start k h (Ended end) = (over h ≡ Some end) × IsPlanned k (is_short (core h)) start h.events
 IsPicked start k h (ListRefused n) = ⊥
 
 -- the run is over, and its events are the listed ones; or n is the number at which the listing is refused, and the events before

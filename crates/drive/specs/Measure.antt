@@ -17,8 +17,10 @@ rank_of phase.Asked u n = 1 + 2 * u + n
 rank_of phase.Updated u n = n
 rank_of (phase.Refused r) u n = n
 
+-- at most how many events but Steps may still come from a core
 abbrev pub rank : Core → ℕ
 rank c = rank_of c.phase (missing 1000 c.parked) (length c.parked)
 
+-- at most how many events of a plan may still come behind a history
 abbrev pub measure : History → ℕ
 measure h = (h.settings.limit - (core h).steps) + rank (core h)

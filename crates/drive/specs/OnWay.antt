@@ -5,10 +5,9 @@ use Rattle.c_tree.specs.declared.run.Phase.{Phase}
 use Rattle.c_tree.specs.declared.run.Picker.{Picker}
 use Rattle.c_tree.specs.declared.run.Picker.TheVariants.{Round, Seed}
 use Rattle.c_tree.specs.declared.run.Settings.{Settings}
-use Rattle.c_tree.specs.Plan.{Way, advance, way}
-use Rattle.c_tree.specs.Run.{Core, is_before, is_after}
+use Rattle.c_tree.specs.Plan.{Progress, advance, progress}
+use Rattle.c_tree.specs.Run.{Core, is_before, is_after, is_refused_for_memory}
 use Rattle.world_core.specs.History.{History, core}
-use Rattle.drive.specs.Driven.{is_short}
 use Rattle.drive.specs.Measure.{measure}
 
 -- the picker's last thread has a thread's number
@@ -24,11 +23,11 @@ pub record IsKept (c : Core) : Type 0 where
 
 -- the update may still come to this: until its outcome both, then what memory came to
 abbrev pub Agrees : Bool → Phase → Type 0
-Agrees short phase = is_after phase ≡ true → short ≡ is_short phase
+Agrees short phase = is_after phase ≡ true → short ≡ is_refused_for_memory phase
 
 -- how far a plan has come
-abbrev pub way_at : History → Picker → Way
-way_at h g = record { core = core h; picker = g; events = h.events }
+abbrev pub progress_at : History → Picker → Progress
+progress_at h g = record { core = core h; picker = g; events = h.events }
 
 -- one event of the plan was made
 pub record IsOnward (h h2 : History) (g g2 : Picker) : Type 0 where
@@ -37,7 +36,7 @@ pub record IsOnward (h h2 : History) (g g2 : Picker) : Type 0 where
   pub low : IsLow g2
   pub more : length h2.events ≡ length h.events + 1
   pub earlier : (short : Bool) → Agrees short (core h2).phase → Agrees short (core h).phase
-  pub way : (short : Bool) → Agrees short (core h2).phase → advance h.settings short (way_at h g) ≡ way_at h2 g2
+  pub way : (short : Bool) → Agrees short (core h2).phase → advance h.settings short (progress_at h g) ≡ progress_at h2 g2
   pub less : measure h2 < measure h
 
 -- the events so far are the first ones of the plan
@@ -45,4 +44,4 @@ pub record OnWay (k : Settings) (start : Picker) (h : History) (g : Picker) : Ty
   pub same : h.settings ≡ k
   pub kept : IsKept (core h)
   pub low : IsLow g
-  pub way : (short : Bool) → Agrees short (core h).phase → way k short start (length h.events) ≡ way_at h g
+  pub way : (short : Bool) → Agrees short (core h).phase → progress k short start (length h.events) ≡ progress_at h g

@@ -14,8 +14,6 @@ pub mod plan;
 pub mod planned;
 pub mod seed;
 pub mod take;
-#[cfg(test)]
-mod tests;
 
 pub use history::{Listing, history_text, read_schedule};
 pub use list::Driven;

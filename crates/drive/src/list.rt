@@ -6,12 +6,12 @@ ghost use Rattle.c_tree.specs.Run.{first};
 ghost use Rattle.drive.specs.Listed.{refusal, EndsAs};
 
 use crate::take::take_event;
-use c_tree::Event;
+use c_tree::{End, Event};
 use std::alloc::AllocError;
-use world_core::{End, World};
+use world_core::World;
 
 /// What a plan came to.
-#[derive(Clone, Copy, PartialEq, Eq, Debug)]
+#[derive(Clone, Copy, PartialEq, Eq)]
 pub enum Driven {
     /// The run is over.
     Ended(End),
@@ -29,7 +29,8 @@ pub enum Driven {
 /// up to there.
 pub fn drive_list(world: &mut World, listed: &[Event], clean: bool) -> Result<Driven, AllocError>
     requires new { world.old.events ≡ [] }
-    ensures answer { IfOk result (λ d. refusal d ≡ refused_at world.old.settings clean 1 (first world.old.settings) listed.now) }
+    ensures answer { IfOk result (λ d. refusal d
+        ≡ refused_at world.old.settings clean 1 (first world.old.settings) listed.now) }
     ensures ended { IfOk result (λ d. EndsAs d clean world.new listed.now) }
     ensures same { world.new.settings ≡ world.old.settings }
 {

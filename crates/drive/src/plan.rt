@@ -11,7 +11,7 @@ use std::alloc::AllocError;
 use world_core::World;
 
 /// How a run takes its next event.
-#[derive(Debug, Drop)]
+#[derive(Drop)]
 pub enum Plan {
     /// Each thread in turn.
     Round,

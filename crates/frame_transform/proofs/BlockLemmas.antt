@@ -14,6 +14,7 @@ use Rattle.frame_transform.proofs.LineLemmas.{three_appended}
 use Rattle.frame_transform.specs.Loops.{loops, loops_of}
 use Rattle.frame_transform.specs.Statements.{simple_text, mark_before, mark_behind, simple_lines}
 use Rattle.frame_transform.specs.Blocks.{if_text, leave_text, label_text, else_line, text, texts, text_of, else_line_of}
+use Rattle.frame_transform.proofs.LoopLemmas.{extent_rules}
 
 pub simple_lines_are : (r : Reads) (depth label n : ℕ) (x : LStmt) → simple_lines r depth label n x ≡ mark_before depth n x ++ (line depth (simple_text r label x) ++ mark_behind depth n x)
 unfolding simple_lines
@@ -123,6 +124,9 @@ unfolding literals text texts
 text-Loop r depth label n k c e b t = refl
 
 pub ruleset text_rules = (text-Assign, text-New, text-Getc, text-Print, text-Free, text-Call, text-Spawn, text-Join, text-Lock, text-Unlock, text-Return, text-Break, text-Continue)
+
+-- and with them how many places and loops it has
+pub ruleset statement_rules = (text_rules, extent_rules)
 
 -- five parts, put one after another
 five : (o a b c d e : List ℕ) → ((((o ++ a) ++ b) ++ c) ++ d) ++ e ≡ o ++ (a ++ (b ++ (c ++ (d ++ e))))

@@ -11,6 +11,7 @@ use Rattle.c_tree.specs.Compute.{literals}
 use Rattle.c_tree.specs.Layout.{count, counts, size_of}
 use Rattle.c_tree.proofs.LayoutLemmas.{size_of-nil, size_of-cons}
 use Rattle.frame_transform.specs.Loops.{loops, loops_in, loops_of}
+use Rattle.c_tree.proofs.LayoutLemmas.{count_rules}
 
 pub loops_of-nil : loops_of [] ≡ 0
 unfolding literals loops loops_in
@@ -81,6 +82,9 @@ unfolding literals loops loops_in
 loops-Loop c e b t = refl
 
 pub ruleset loops_rules = (loops_of-nil, loops_of-cons, loops-Assign, loops-New, loops-Getc, loops-Print, loops-Free, loops-Call, loops-Spawn, loops-Join, loops-Lock, loops-Unlock, loops-Return, loops-Break, loops-Continue, loops-If, loops-Loop)
+
+-- and with them how many places a statement has
+pub ruleset extent_rules = (loops_rules, count_rules)
 
 -- no statement holds more loops than places
 mutual

@@ -4,16 +4,10 @@ use Rattle.std.specs.Prelude.{Result, OnOk}
 use Rattle.std.proofs.Math.ListN.{get_or-map}
 use Rattle.c_tree.specs.declared.lifted.Lifted.{Lifted}
 use Rattle.c_tree.specs.Names.{name_at, struct_of, no_struct}
-use Rattle.c_tree.specs.Step.{function_of, no_function}
 use Rattle.frame_transform.proofs.LineLemmas.{two_appended}
-
-pub function_name : (p : Lifted) (i : ℕ) → name_at p 0 i ≡ (function_of p i).name
-function_name p i = get_or-map (λ x. x.name) p.functions i no_function
 
 pub struct_name : (p : Lifted) (i : ℕ) → name_at p 1 i ≡ (struct_of p i).name
 struct_name p i = get_or-map (λ x. x.name) p.structs i no_struct
-
-pub ruleset name_rules = (function_name, struct_name)
 
 -- a name between two texts, behind another text
 pub named_appended : {T E : Type 0} (res : Result T E) (a before name said after o o1 o2 : List ℕ)

@@ -115,35 +115,21 @@ fn append_loop(
     let third = extent_of_block(step);
     let body_at = n + first.places + 1;
     let step_at = body_at + second.places;
-    let number = k + first.loops + second.loops + third.loops + 1;
+    let before = k + first.loops + second.loops;
+    let number = before + third.loops + 1;
+    let inner = depth + 1;
     append_line(depth, b"for (;;) {", out)?;
-    append_block(inside, depth + 1, label, n, k, calls, out)?;
-    append_leave_line(inside, depth + 1, test, out)?;
-    append_block(
-        inside,
-        depth + 1,
-        number,
-        body_at,
-        k + first.loops,
-        body,
-        out,
-    )?;
-    append_numbered_line(depth + 1, b"UP_CONT_", number as usize, b": ;", out)?;
-    append_block(
-        inside,
-        depth + 1,
-        label,
-        step_at,
-        k + first.loops + second.loops,
-        step,
-        out,
-    )?;
-    append_mark(depth + 1, step_at + third.places, out)?;
+    append_block(inside, inner, label, n, k, calls, out)?;
+    append_leave_line(inside, inner, test, out)?;
+    append_block(inside, inner, number, body_at, k + first.loops, body, out)?;
+    append_numbered_line(inner, b"UP_CONT_", number as usize, b": ;", out)?;
+    append_block(inside, inner, label, step_at, before, step, out)?;
+    append_mark(inner, step_at + third.places, out)?;
     append_line(depth, b"}", out)
 }
 
 #[cycle(blocks)]
-#[tactic(auto, using(crate::proofs::BlockLemmas::text_rules, crate::proofs::LoopLemmas::loops_rules, c_tree::proofs::LayoutLemmas::count_rules))]
+#[tactic(auto, using(crate::proofs::BlockLemmas::statement_rules))]
 fn append_statement(
     inside: &Inside<'_>,
     depth: u32,

@@ -6,12 +6,11 @@ ghost use Rattle.frame_transform.specs.Inside.{reads};
 ghost use Rattle.frame_transform.specs.Line.{each, listed};
 ghost use Rattle.frame_transform.specs.Statements as spec;
 
-use crate::names::function_name;
-use c_tree::{Boxed, Dest, LExpr, Lifted, print_expr};
+use c_tree::{Boxed, Dest, LExpr, Lifted, function_name, print_expr};
 use std::alloc::{AllocError, Global};
 
 /// The function that is printed.
-#[derive(Clone, Copy, Debug)]
+#[derive(Clone, Copy)]
 pub struct Inside<'a> {
     pub alloc: Global,
     pub program: &'a Lifted,

@@ -7,7 +7,7 @@ ghost use Rattle.frame_transform.specs.Loops as spec;
 use c_tree::LStmt;
 
 /// How many places and loops statements hold.
-#[derive(Clone, Copy, PartialEq, Eq, Debug)]
+#[derive(Clone, Copy, PartialEq, Eq)]
 pub struct Extent {
     pub places: u32,
     pub loops: u32,
@@ -25,7 +25,7 @@ const NONE: Extent = Extent {
 
 /// The places and the loops of a statement.
 #[cycle(extents)]
-#[tactic(auto, using(crate::proofs::LoopLemmas::loops_rules, c_tree::proofs::LayoutLemmas::count_rules))]
+#[tactic(auto, using(crate::proofs::LoopLemmas::extent_rules))]
 pub fn extent_of_statement(s: &LStmt) -> Extent
     requires { count s.now ≤ 10000 }
     ensures places { result.places ≡ count s.now }

@@ -17,8 +17,6 @@ mod print;
 mod rebuild;
 mod statements;
 mod target;
-#[cfg(test)]
-mod tests;
 
 pub use print::print_target;
 pub use target::{Target, transform};

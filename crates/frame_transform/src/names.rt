@@ -5,19 +5,8 @@ ghost use Rattle.c_tree.specs.Names as spec;
 
 use c_tree::Lifted;
 
-/// The name of a function.
-#[tactic(auto, using(crate::proofs::NameLemmas::name_rules))]
-pub fn function_name(program: &Lifted, i: u32) -> &[u8]
-    ensures { result.now ≡ spec.name_at program.now 0 i }
-{
-    match program.functions.as_slice().get(i as usize) {
-        Some(function) => function.name.as_bytes(),
-        None => &[],
-    }
-}
-
 /// The name of a struct.
-#[tactic(auto, using(crate::proofs::NameLemmas::name_rules))]
+#[tactic(auto, using(crate::proofs::NameLemmas::struct_name))]
 pub fn struct_name(program: &Lifted, i: u32) -> &[u8]
     ensures { result.now ≡ spec.name_at program.now 1 i }
 {

@@ -1,14 +1,11 @@
 //! The lines that rebuild the frames inside the calls of a function.
 
 ghost use Rattle.std.specs.Prelude.{◌≡◌, ◌≤◌, ◌++◌, length, OnOk, Some};
-ghost use Rattle.c_tree.specs.Points.{callee_in};
-ghost use Rattle.c_tree.specs.declared.place.Act.TheVariants as act;
 ghost use Rattle.c_tree.specs.Step.{function_of};
 ghost use Rattle.frame_transform.specs.TargetText as spec;
 
 use crate::line::{append_indent, append_numbered, append_times};
-use crate::names::function_name;
-use c_tree::{Act, LStmt, Lifted, Place};
+use c_tree::{Lifted, Place, function_name};
 use std::alloc::AllocError;
 
 /// How many parameters a function has; 0 where it is not there.
@@ -72,42 +69,6 @@ fn append_rebuild(
     out.extend_from_slice(b"\n")
 }
 
-/// The function that a statement calls.
-fn callee_of(s: &LStmt) -> Option<u32>
-    ensures { result ≡ callee_in (act.Do s.now) }
-{
-    match s {
-        LStmt::Call(_, function, _) => Some(*function),
-        LStmt::Assign(_, _) => None,
-        LStmt::New(_, _) => None,
-        LStmt::Getc(_) => None,
-        LStmt::Print(_, _) => None,
-        LStmt::Free(_) => None,
-        LStmt::Spawn(_, _, _) => None,
-        LStmt::Join(_) => None,
-        LStmt::Lock(_) => None,
-        LStmt::Unlock(_) => None,
-        LStmt::Return(_) => None,
-        LStmt::If(_, _, _) => None,
-        LStmt::Loop(_, _, _, _) => None,
-        LStmt::Break => None,
-        LStmt::Continue => None,
-    }
-}
-
-/// The function that is called at a place.
-fn callee(act: &Act) -> Option<u32>
-    ensures { result ≡ callee_in act.now }
-{
-    match act {
-        Act::Do(s) => callee_of(s),
-        Act::Enter => None,
-        Act::Test(_) => None,
-        Act::EndLoop => None,
-        Act::Finish => None,
-    }
-}
-
 fn append_rebuild_at(
     program: &Lifted,
     n: u32,
@@ -130,7 +91,7 @@ pub fn append_rebuilds(program: &Lifted, row: &[Place], out: &mut Vec<u8>) -> Re
         ≡ out.old.items ++ spec.rebuild_lines program.now row.now) }
 {
     'places: for n in 0..row.len() {
-        append_rebuild_at(program, n as u32, callee(&row[n].act), out)?;
+        append_rebuild_at(program, n as u32, row[n].act.callee(), out)?;
     }
     Ok(())
 }

@@ -11,8 +11,8 @@ ghost use Rattle.frame_transform.specs.Statements as spec;
 
 use crate::expressions::{Inside, append_call, append_dest, append_each, append_expr};
 use crate::line::{append_indent, append_numbered, append_numbered_line};
-use crate::names::{function_name, mutex_name, struct_name};
-use c_tree::{Dest, LExpr, LStmt};
+use crate::names::{mutex_name, struct_name};
+use c_tree::{Dest, LExpr, LStmt, function_name};
 use std::alloc::AllocError;
 
 fn append_slot(inside: &Inside<'_>, slot: u32, out: &mut Vec<u8>) -> Result<(), AllocError>

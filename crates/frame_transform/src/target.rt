@@ -6,9 +6,10 @@ use c_tree::{Act, Lifted, Place, Places, Row};
 use std::alloc::{AllocError, Global};
 
 /// A program and the numbered places of its functions.
-#[derive(Debug, Drop)]
+#[derive(Drop)]
 pub struct Target {
     pub program: Lifted,
+    /// The places of the program's functions.
     pub places: Places,
 }
 

@@ -10,8 +10,6 @@ mod listing;
 mod number;
 mod print;
 mod reason;
-#[cfg(test)]
-mod tests;
 mod word;
 
 pub use listing::{Listing, read_schedule};

@@ -8,7 +8,7 @@ use c_tree::{Event, Row};
 use std::alloc::{AllocError, Global};
 
 /// The events of the lines up to the first that isn't an event's line.
-#[derive(Debug, Drop)]
+#[derive(Drop)]
 pub struct Listing {
     pub events: Row<Event>,
     /// Whether each line is an event's, the last with its newline.

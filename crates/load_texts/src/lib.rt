@@ -11,8 +11,6 @@ mod number;
 mod points;
 mod request;
 mod source;
-#[cfg(test)]
-mod tests;
 
 pub use laws::mappings_are_short;
 pub use points::mapping;

@@ -37,7 +37,8 @@ fn append_next(declared: &[u8], k: u32, out: &mut Vec<u8>) -> Result<(), AllocEr
 
 fn append_functions(declared: &[u8], n: u32, out: &mut Vec<u8>) -> Result<(), AllocError>
     ensures { OnOk result (out.new.items
-        ≡ out.old.items ++ (spec.first_function declared.now ++ spec.next_functions declared.now n)) }
+        ≡ out.old.items
+        ++ (spec.first_function declared.now ++ spec.next_functions declared.now n)) }
 {
     append_first(declared, out)?;
     'functions: for i in 0..n.saturating_sub(1) {

@@ -1,3 +1,7 @@
+-- of expressions
+pub mod LiftLemmas
+pub mod TypeLemmas
+-- of entries
 pub mod NumberLemmas
 pub mod SuitLemmas
 pub mod TwiceLemmas

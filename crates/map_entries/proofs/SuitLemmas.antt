@@ -8,8 +8,8 @@ use Rattle.c_tree.specs.Link.{Link}
 use Rattle.c_tree.specs.MapExpr.{Reads, only_globals, passes, fills_type}
 use Rattle.c_tree.specs.Suits.{suits, suits_check}
 use Rattle.c_tree.specs.Entries.{suited}
-use Rattle.map_exprs.specs.declared.typed.Typed.{Typed}
-use Rattle.map_exprs.specs.Typed.{typed}
+use Rattle.map_entries.specs.declared.typed.Typed.{Typed}
+use Rattle.map_entries.specs.Typed.{typed}
 
 -- a typed expression that fills
 abbrev pub filled_typed : Link → Option Ty → Option Typed → Option LExpr

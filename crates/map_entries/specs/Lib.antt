@@ -1,5 +1,7 @@
--- what the public contracts rest on
+-- What the public contracts rest on.
+pub mod Typed
 pub mod Gives
--- what the inner functions promise each other
+-- What the inner functions promise each other.
+pub mod Forms
 pub mod Numbers
 pub mod Rest

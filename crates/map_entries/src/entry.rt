@@ -8,10 +8,10 @@ ghost use Rattle.map_entries.specs.Rest as rest;
 use crate::fill::{has_twice, lifted_fills};
 use crate::fits::{fields_read, filling, scalar_asked, slot_asked, testing};
 use crate::points::PointTable;
+use crate::reads::Reads;
 use crate::refused::EntryRefused;
 use crate::site::{Site, callees_differ, kinds_differ};
 use c_tree::{Entry, EntryCause, Expr, Fill, LEntry, Name, Pt};
-use map_exprs::Reads;
 use patch_match::{Link, lifted_match};
 use std::alloc::Global;
 

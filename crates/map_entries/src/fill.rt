@@ -6,8 +6,8 @@ ghost use Rattle.c_tree.specs.Suits as suits;
 ghost use Rattle.c_tree.specs.Entries as spec;
 
 use crate::fits::{filling, slot_asked};
+use crate::reads::Reads;
 use c_tree::{Fill, LFill, Row};
-use map_exprs::Reads;
 use patch_match::Link;
 use std::alloc::{AllocError, Global};
 use std::collections::HashSet;

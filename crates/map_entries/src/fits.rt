@@ -5,10 +5,12 @@ ghost use Rattle.std.specs.Option.{option_copied};
 ghost use Rattle.c_tree.specs.Entries.{suited};
 ghost use Rattle.c_tree.specs.MapExpr as spec;
 ghost use Rattle.c_tree.specs.Suits as suits;
-ghost use Rattle.map_exprs.specs.Typed.{reads_of};
+ghost use Rattle.map_entries.specs.Typed.{reads_of};
 
+use crate::expr::numbered;
+use crate::reads::Reads;
+use crate::types::passes_int;
 use c_tree::{Expr, LExpr, LGlobal, Slot, Ty};
-use map_exprs::{Reads, is_pointer, numbered, passes_int};
 use patch_match::Link;
 use std::alloc::{AllocError, Global};
 
@@ -18,7 +20,7 @@ fn fills(k: &Link<'_>, given: &Option<Ty>, asked: &Ty) -> bool
 {
     match given {
         None => false,
-        Some(Ty::AnyPtr) => is_pointer(asked),
+        Some(Ty::AnyPtr) => asked.is_pointer(),
         Some(given) => k.is_image(given, asked),
     }
 }

@@ -8,12 +8,22 @@ use c_tree::{Place, PlaceKind, Row};
 use std::alloc::{AllocError, Global};
 
 /// The numbers of the places that mappings can name, by kind and in ascending order.
-#[derive(Drop)]
 pub struct Numbers {
     pub entries: Row<u32>,
     pub loops: Row<u32>,
     pub calls: Row<u32>,
     pub blocks: Row<u32>,
+}
+
+impl Drop for Numbers {
+    fn drop(self) {
+        let Numbers {
+            entries: _,
+            loops: _,
+            calls: _,
+            blocks: _,
+        } = self;
+    }
 }
 
 /// The numbers of the places of one kind.

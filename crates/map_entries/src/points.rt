@@ -4,23 +4,31 @@ ghost use Rattle.std.specs.Prelude.{◌≡◌, [], ◌∷◌, map, IfOk};
 ghost use Rattle.c_places.specs.Limit.{KeepsLimit};
 ghost use Rattle.c_tree.specs.Points as spec;
 ghost use Rattle.c_tree.specs.Step.{function_of, no_function};
-ghost use Rattle.c_tree.specs.declared.place.Act.TheVariants.{Do};
 ghost use Rattle.c_tree.specs.declared.place.PlaceKind.TheVariants as kind;
 ghost use Rattle.map_entries.specs.Numbers.{numbers_of};
 
 use crate::numbers::{Numbers, kth, numbers_of};
-use c_places::{PlaceKind, Places, places};
-use c_tree::{Act, LStmt, Lifted, Place, Pt};
+use c_places::places;
+use c_tree::{Lifted, Place, PlaceKind, Places, Pt};
 use std::alloc::{AllocError, Global};
 use std::marker::Model;
 
 /// A program with the places of its functions, where points are found. Contracts see the program.
-#[derive(Drop)]
 pub struct PointTable<'a> {
     program: &'a Lifted,
     places: Places,
     /// The numbers of each function's places by kind.
     numbers: Vec<Numbers>,
+}
+
+impl Drop for PointTable<'_> {
+    fn drop(self) {
+        let PointTable {
+            program: _,
+            places: _,
+            numbers: _,
+        } = self;
+    }
 }
 
 impl<'a> Model for PointTable<'a> {
@@ -98,43 +106,8 @@ fn callee_at(places: &[Place], n: u32) -> Option<u32>
     ensures { result ≡ spec.callee_in (spec.nth places.now n).act }
 {
     match places.get(n as usize) {
-        Some(place) => callee_in(&place.act),
+        Some(place) => place.act.callee(),
         None => None,
-    }
-}
-
-fn callee_in(act: &Act) -> Option<u32>
-    ensures { result ≡ spec.callee_in act.now }
-{
-    match act {
-        Act::Do(s) => called(s),
-        Act::Enter => None,
-        Act::Test(_) => None,
-        Act::EndLoop => None,
-        Act::Finish => None,
-    }
-}
-
-/// The function that a statement calls.
-fn called(s: &LStmt) -> Option<u32>
-    ensures { result ≡ spec.callee_in (Do s.now) }
-{
-    match s {
-        LStmt::Call(_, to, _) => Some(*to),
-        LStmt::Assign(_, _) => None,
-        LStmt::New(_, _) => None,
-        LStmt::Getc(_) => None,
-        LStmt::Print(_, _) => None,
-        LStmt::Free(_) => None,
-        LStmt::Spawn(_, _, _) => None,
-        LStmt::Join(_) => None,
-        LStmt::Lock(_) => None,
-        LStmt::Unlock(_) => None,
-        LStmt::Return(_) => None,
-        LStmt::If(_, _, _) => None,
-        LStmt::Loop(_, _, _, _) => None,
-        LStmt::Break => None,
-        LStmt::Continue => None,
     }
 }
 

@@ -4,6 +4,7 @@ use c_tree::EntryCause;
 use std::alloc::AllocError;
 use thiserror::Error;
 
+/// Why an entry of a mapping is not taken.
 #[derive(Debug, Drop, Error)]
 pub enum EntryRefused {
     /// The entry is unsound, and this is the least cause.

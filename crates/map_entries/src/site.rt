@@ -9,7 +9,7 @@ use crate::points::PointTable;
 use patch_match::Link;
 
 /// A place of a function.
-#[derive(Clone, Copy, PartialEq, Eq, Debug)]
+#[derive(Clone, Copy, PartialEq, Eq)]
 pub struct Site {
     pub function: u32,
     pub place: u32,

@@ -11,5 +11,6 @@ abbrev pub IsRefusalIn : TextScan → ℕ → MapRefused → Type 0
 IsRefusalIn scan len (refused.At at c) = IsMapFaultIn scan len at c
 IsRefusalIn scan len (refused.Memory e) = Unit {0}
 
+-- a refusal of a mapping's text names its first fault, or memory was wanted
 abbrev pub IsRefusal : List ℕ → MapRefused → Type 0
 IsRefusal bytes r = IsRefusalIn (text_of bytes) (length bytes) r

@@ -6,16 +6,9 @@
 #![tactic(auto)]
 
 mod laws;
-#[cfg(test)]
-mod limit_tests;
 mod reading;
 mod refused;
-#[cfg(test)]
-mod tests;
-#[cfg(test)]
-mod tree_tests;
 
-pub use c_tree::ReadCause;
 pub use laws::{each_mapping_has_one_answer, mappings_have_their_form};
 pub use reading::read_map;
 pub use refused::MapRefused;

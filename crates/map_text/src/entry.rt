@@ -6,10 +6,10 @@ ghost use Rattle.c_tree.specs.Canonical as spec;
 ghost use Rattle.map_text.specs.Lines as words;
 
 use crate::fills::{append_expr, append_fills};
-use crate::names::{function_name, name_at, slot_name};
+use crate::names::name_at;
 use crate::points::Points;
 use crate::programs::Programs;
-use c_tree::{LEntry, LExpr, LFill};
+use c_tree::{LEntry, LExpr, LFill, function_name, slot_name};
 use patch_match::{Link, Tables};
 use std::alloc::{AllocError, Global};
 
@@ -33,6 +33,14 @@ fn side_text<'a>(program: &'a Tables<'_>, kind: u8, side: Option<u32>) -> &'a [u
     }
 }
 
+/// Appends two texts.
+fn append_two(first: &[u8], second: &[u8], out: &mut Vec<u8>) -> Result<(), AllocError>
+    ensures { OnOk result (out.new.items ≡ out.old.items ++ (first.now ++ second.now)) }
+{
+    out.extend_from_slice(first)?;
+    out.extend_from_slice(second)
+}
+
 fn append_match(
     link: &Link<'_>,
     kind: u8,
@@ -43,10 +51,8 @@ fn append_match(
     ensures { OnOk result (out.new.items ≡ out.old.items
         ++ spec.entry_text link.now (form.Match kind old new)) }
 {
-    out.extend_from_slice(match_word(kind))?;
-    out.extend_from_slice(b" ")?;
-    out.extend_from_slice(name_at(link.old(), kind, old))?;
-    out.extend_from_slice(b" -> ")?;
+    append_two(match_word(kind), b" ", out)?;
+    append_two(name_at(link.old(), kind, old), b" -> ", out)?;
     out.extend_from_slice(side_text(link.new(), kind, new))
 }
 
@@ -63,10 +69,8 @@ fn append_field(
 {
     let old = link.old().program();
     let origin = link.origin(owner);
-    out.extend_from_slice(b"field ")?;
-    out.extend_from_slice(name_at(link.new(), 1, owner))?;
-    out.extend_from_slice(b".")?;
-    out.extend_from_slice(slot_name(link.new().fields(owner), field))?;
+    append_two(b"field ", name_at(link.new(), 1, owner), out)?;
+    append_two(b".", slot_name(link.new().fields(owner), field), out)?;
     out.extend_from_slice(b" = ")?;
     append_expr(alloc, old, None, origin, expr, out)
 }

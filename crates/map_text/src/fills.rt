@@ -6,8 +6,7 @@ ghost use Rattle.c_tree.specs.Canonical as spec;
 ghost use Rattle.c_tree.specs.MapExpr.{reads_of};
 ghost use Rattle.c_tree.specs.Shown.{shown};
 
-use crate::names::slot_name;
-use c_tree::{LExpr, LFill, Lifted, Slot, print_expr};
+use c_tree::{LExpr, LFill, Lifted, Slot, print_expr, slot_name};
 use std::alloc::{AllocError, Global};
 
 /// Appends an expression, whose slots are those of the function, and whose own fields are those of

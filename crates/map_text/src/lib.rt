@@ -13,6 +13,6 @@ mod programs;
 mod tally;
 mod text;
 
-pub use names::{function_name, name_at, slot_name};
+pub use names::name_at;
 pub use points::Points;
 pub use text::mapping_text;

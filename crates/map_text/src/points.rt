@@ -17,10 +17,18 @@ use std::alloc::{AllocError, Global};
 use std::marker::Model;
 
 /// A program, and the point of each place of each function. Contracts see the program.
-#[derive(Drop)]
 pub struct Points<'a> {
     program: &'a Lifted,
     rows: Row<Row<Pt>>,
+}
+
+impl Drop for Points<'_> {
+    fn drop(self) {
+        let Points {
+            program: _,
+            rows: _,
+        } = self;
+    }
 }
 
 impl<'a> Model for Points<'a> {
@@ -50,6 +58,7 @@ impl<'a> Points<'a> {
         Ok(Points { program, rows })
     }
 
+    /// The program itself.
     pub fn program(&self) -> &'a Lifted
         ensures { result.now ≡ self.now }
     {

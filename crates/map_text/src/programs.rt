@@ -11,11 +11,20 @@ use std::alloc::{AllocError, Global};
 use std::marker::Model;
 
 /// The link of two programs, and the points of both. Contracts see the link.
-#[derive(Drop)]
 pub struct Programs<'a> {
     link: Link<'a>,
     old: Points<'a>,
     new: Points<'a>,
+}
+
+impl Drop for Programs<'_> {
+    fn drop(self) {
+        let Programs {
+            link: _,
+            old: _,
+            new: _,
+        } = self;
+    }
 }
 
 impl<'a> Model for Programs<'a> {
@@ -34,6 +43,8 @@ impl<'a> Model for Programs<'a> {
 }
 
 impl<'a> Programs<'a> {
+    /// The link that the entries of a patch make, and the points of both programs, whose functions
+    /// keep the limit of places.
     pub fn of(
         alloc: Global,
         old: &'a Lifted,
@@ -50,18 +61,21 @@ impl<'a> Programs<'a> {
         Ok(Programs { link, old, new })
     }
 
+    /// How the two programs belong together.
     pub fn link(&self) -> &Link<'a>
         ensures { result.now ≡ self.now }
     {
         &self.link
     }
 
+    /// The points of the old program.
     pub fn old(&self) -> &Points<'a>
         ensures { result.now ≡ self.now.old }
     {
         &self.old
     }
 
+    /// The points of the new program.
     pub fn new(&self) -> &Points<'a>
         ensures { result.now ≡ self.now.new }
     {

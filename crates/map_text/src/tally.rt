@@ -17,6 +17,7 @@ pub struct Tally {
 impl Tally {
     ghost use Rattle.map_text.specs.Tally as spec;
 
+    /// No place has been seen.
     pub fn new() -> Tally
         ensures { result ≡ spec.nothing }
     {

@@ -11,10 +11,10 @@ use Rattle.c_tree.specs.declared.mapping.Mapping.{Mapping}
 use Rattle.c_tree.specs.declared.mapping.Patch.{Patch}
 use Rattle.c_tree.specs.Canonical.{canonical_entries, canonical_text}
 use Rattle.c_tree.specs.Entries.{Unsound}
-use Rattle.patch_frame.specs.Framing.{framed, before_old, before_new, before_map, IsFraming, IsCutShort, IsBadAt}
-use Rattle.patch_frame.specs.Laws.{OneFraming, NoneIsShort, NoneIsBad, NoShortIsBad, OneOffset}
-use Rattle.sources.specs.Laws.{OneVerdict}
-use Rattle.sources.specs.Source.{IsAccepted, IsRefused}
+use Rattle.patch_form.specs.Framing.{framed, before_old, before_new, before_map, IsFraming, IsCutShort, IsBadAt}
+use Rattle.patch_form.specs.Laws.{OneFraming, NoneIsShort, NoneIsBad, NoShortIsBad, OneOffset}
+use Rattle.c_source.specs.Laws.{OneVerdict}
+use Rattle.c_source.specs.Source.{IsAccepted, IsRefused}
 use Rattle.patch_file.specs.Laws.{OneAnswer}
 use Rattle.patch_file.specs.Refused.{IsFirstDifference, TextsRefused, old_source, new_source, map_text, entry, not_canonical, IsFileRefused, too_long, short, bad_head, texts}
 use Rattle.patch_file.specs.Whole.{IsFileOf, IsWhole, file_of, map_of}

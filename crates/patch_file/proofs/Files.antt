@@ -7,10 +7,10 @@ use Rattle.c_tree.specs.declared.lifted.Lifted.{Lifted}
 use Rattle.c_tree.specs.declared.mapping.Mapping.{Mapping}
 use Rattle.c_tree.specs.declared.mapping.Patch.{Patch}
 use Rattle.c_grammar.specs.Mapping.{IsMappingOf}
-use Rattle.patch_frame.specs.Answer.{IsFrame}
-use Rattle.patch_frame.specs.declared.frame.Frame.{Frame}
-use Rattle.patch_frame.specs.Framing.{framed, before_map, IsCutShort, IsBadAt}
-use Rattle.sources.specs.Source.{IsAccepted}
+use Rattle.patch_form.specs.Answer.{IsFrame}
+use Rattle.patch_form.specs.declared.frame.Frame.{Frame}
+use Rattle.patch_form.specs.Framing.{framed, before_map, IsCutShort, IsBadAt}
+use Rattle.c_source.specs.Source.{IsAccepted}
 use Rattle.patch_file.specs.declared.refused.FileRefused.{FileRefused}
 use Rattle.patch_file.specs.declared.refused.FileRefused.TheVariants.{At, Memory}
 use Rattle.patch_file.specs.Parts.{AreRead, IsMadeOf, IsPatchOf, IsPlaced, Refuses}

@@ -9,14 +9,14 @@ use Rattle.c_tree.specs.declared.mapping.Patch.{Patch}
 use Rattle.map_lang.specs.Refusal as reader
 use Rattle.map_lang.specs.declared.refused.MapRefused.{MapRefused}
 use Rattle.map_lang.specs.declared.refused.MapRefused.TheVariants as mapping
-use Rattle.patch_frame.specs.declared.frame.Frame.{Frame}
+use Rattle.patch_form.specs.declared.frame.Frame.{Frame}
 use Rattle.patch_maker.specs.Made as maker
 use Rattle.patch_maker.specs.declared.refused.PatchRefused.{PatchRefused}
 use Rattle.patch_maker.specs.declared.refused.PatchRefused.TheVariants as patch
-use Rattle.sources.specs.Refusal as sources
-use Rattle.sources.specs.Source.{IsAccepted}
-use Rattle.sources.specs.declared.refused.SourceRefused.{SourceRefused}
-use Rattle.sources.specs.declared.refused.SourceRefused.TheVariants as source
+use Rattle.c_source.specs.Refusal as sources
+use Rattle.c_source.specs.Source.{IsAccepted}
+use Rattle.c_source.specs.declared.refused.SourceRefused.{SourceRefused}
+use Rattle.c_source.specs.declared.refused.SourceRefused.TheVariants as source
 use Rattle.patch_file.specs.declared.refused.FileRefused.{FileRefused}
 use Rattle.patch_file.specs.declared.refused.FileRefused.TheVariants.{At, Memory}
 use Rattle.patch_file.specs.Parts.{AreRead, IsMadeOf, IsPlaced, Refuses}

@@ -4,13 +4,13 @@ use Rattle.c_grammar.specs.Mapping.{IsMappingOf}
 use Rattle.c_tree.specs.declared.lifted.Lifted.{Lifted}
 use Rattle.c_tree.specs.declared.mapping.Mapping.{Mapping}
 use Rattle.c_tree.specs.declared.mapping.Patch.{Patch}
-use Rattle.patch_frame.specs.declared.frame.Frame.{Frame}
-use Rattle.patch_frame.specs.Framing.{before_old, before_new, before_map}
+use Rattle.patch_form.specs.declared.frame.Frame.{Frame}
+use Rattle.patch_form.specs.Framing.{before_old, before_new, before_map}
 use Rattle.patch_maker.specs.Made.{IsPatch}
 use Rattle.patch_file.specs.declared.refused.FileRefused.{FileRefused}
 use Rattle.patch_file.specs.Refusal.{AreTextsRefused}
 use Rattle.patch_file.specs.Whole.{map_of}
-use Rattle.sources.specs.Source.{IsAccepted}
+use Rattle.c_source.specs.Source.{IsAccepted}
 
 -- the texts begin where a file's do
 pub record IsPlaced (f : Frame) : Type 0 where

@@ -10,9 +10,9 @@ use Rattle.c_tree.specs.declared.mapping.LEntry.{LEntry}
 use Rattle.c_tree.specs.declared.mapping.Mapping.{Mapping}
 use Rattle.c_tree.specs.Canonical.{canonical_entries, canonical_text}
 use Rattle.c_tree.specs.Entries.{Unsound}
-use Rattle.patch_frame.specs.Framing.{framed, before_old, before_new, before_map, IsCutShort, IsBadAt}
+use Rattle.patch_form.specs.Framing.{framed, before_old, before_new, before_map, IsCutShort, IsBadAt}
 use Rattle.patch_file.specs.Whole.{max_file}
-use Rattle.sources.specs.Source.{IsAccepted, IsRefused}
+use Rattle.c_source.specs.Source.{IsAccepted, IsRefused}
 
 -- an offset is the first at which two texts differ, or one has ended and the other has not
 pub record IsFirstDifference (at : ℕ) (xs ys : List ℕ) : Type 0 where

@@ -4,8 +4,8 @@ use Rattle.c_grammar.specs.Mapping.{IsMappingOf}
 use Rattle.c_tree.specs.declared.mapping.Mapping.{Mapping}
 use Rattle.c_tree.specs.declared.mapping.Patch.{Patch}
 use Rattle.c_tree.specs.Canonical.{canonical_entries, canonical_text}
-use Rattle.patch_frame.specs.Framing.{framed}
-use Rattle.sources.specs.Source.{IsAccepted}
+use Rattle.patch_form.specs.Framing.{framed}
+use Rattle.c_source.specs.Source.{IsAccepted}
 
 -- the most bytes of a patch's file
 abbrev pub max_file : ℕ

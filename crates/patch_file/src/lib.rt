@@ -1,4 +1,5 @@
-//! Patches as files: from a patch to its bytes, and from bytes to the patch or to why they are none.
+//! Patches as files: from a patch to its bytes, and from bytes to the patch or to why they are
+//! none.
 //!
 //! The layer above rests on two contracts: `write_patch` gives the bytes of a patch's file, and
 //! `read_patch` gives the one whole patch whose file the bytes are, or the first cause why they are

@@ -8,18 +8,18 @@ ghost use Rattle.c_tree.specs.declared.lifted.Lifted.{Lifted};
 ghost use Rattle.patch_file.specs.Parts.{AreRead, IsMadeOf, IsPatchOf, IsPlaced, Refuses};
 ghost use Rattle.patch_file.specs.Refusal.{IsRefusal};
 ghost use Rattle.patch_file.specs.Whole.{IsFileOf};
-ghost use Rattle.sources.specs.Source.{IsAccepted};
+ghost use Rattle.c_source.specs.Source.{IsAccepted};
 
 use crate::difference::first_difference;
 use crate::refused::{
     FileRefused, entry_refused, map_refused, new_refused, old_refused, refused_at,
 };
+use c_source::accepted;
 use c_tree::{FileCause, Lifted, Mapping, Text};
 use map_lang::read_map;
 use map_text::mapping_text;
-use patch_frame::{Frame, FrameFault, read_frame};
+use patch_form::{Frame, FrameFault, read_frame};
 use patch_maker::{SoundPatch, make_patch};
-use sources::accepted;
 use std::alloc::{AllocError, Global};
 
 /// The most bytes of a patch's file.
@@ -103,7 +103,8 @@ fn canonical_only(
     patch: SoundPatch,
 ) -> Result<SoundPatch, FileRefused>
     requires placed { IsPlaced frame.now }
-    requires made { (m : Mapping) × AreRead frame.now patch.old patch.new m × IsMadeOf frame.now patch.old patch.new m patch }
+    requires made { (m : Mapping) × AreRead frame.now patch.old patch.new m
+        × IsMadeOf frame.now patch.old patch.new m patch }
     ensures { MatchResult result (IsPatchOf frame.now) (Refuses frame.now) }
 {
     let whole = patch.patch();
@@ -133,9 +134,9 @@ fn texts_read(alloc: Global, frame: &Frame<'_>) -> Result<SoundPatch, FileRefuse
 ///
 /// # Errors
 ///
-/// The bytes are the file of no whole patch; the first of these causes is answered, at its offset in
-/// the bytes: they are too long; they are no file of this form; the old source is refused, the new
-/// source, the text of the mapping, an entry; the text isn't the canonical one of its entries.
+/// The bytes are the file of no whole patch; the first of these causes is answered, at its offset
+/// in the bytes: they are too long; they are no file of this form; the old source is refused, the
+/// new source, the text of the mapping, an entry; the text isn't the canonical one of its entries.
 pub fn read_patch(alloc: Global, bytes: &[u8]) -> Result<SoundPatch, FileRefused>
     ensures { MatchResult result (IsFileOf bytes.now) (IsRefusal bytes.now) }
 {

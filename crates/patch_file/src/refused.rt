@@ -2,10 +2,10 @@
 
 ghost use Rattle.patch_file.specs.Refusal as spec;
 
+use c_source::SourceRefused;
 use c_tree::FileCause;
 use map_lang::MapRefused;
 use patch_maker::PatchRefused;
-use sources::SourceRefused;
 use std::alloc::AllocError;
 
 /// Why bytes gave no patch.

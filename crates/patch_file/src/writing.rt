@@ -5,7 +5,7 @@ ghost use Rattle.c_places.specs.Limit.{KeepsLimit};
 ghost use Rattle.patch_file.specs.Whole.{file_of};
 
 use map_text::mapping_text;
-use patch_frame::write_frame;
+use patch_form::write_frame;
 use patch_maker::SoundPatch;
 use std::alloc::{AllocError, Global};
 

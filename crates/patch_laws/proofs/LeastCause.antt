@@ -26,7 +26,8 @@ use Rattle.c_tree.specs.Step.{function_of}
 use Rattle.c_tree.specs.Refusal.{onward, refuse_if}
 use Rattle.c_tree.specs.Names.{is_number, same_number, find_name, names_in, slot_names, struct_of}
 use Rattle.c_tree.specs.Points.{is_kind, place_of, callee_at}
-use Rattle.c_tree.specs.Link.{Link, is_start, match_at, origin}
+use Rattle.c_tree.specs.StartForm.{is_start}
+use Rattle.c_tree.specs.Link.{Link, match_at, origin}
 use Rattle.c_tree.specs.MapExpr.{Reads, slots_of, fields_of, reads_of, only_globals, numbered, scalar_type}
 use Rattle.c_tree.specs.Suits.{site, is_call_at, kinds_differ, match_of_callee, callees_differ, start_differs, reads_slots, reads_fields, suits, slot_asked, suits_slot, suits_global, suits_check, has_twice}
 use Rattle.c_tree.specs.Entries.{both, all_there, missing, lifted_match, suited, lifted_fill_at, lifted_fill, clash, sound_entry}

@@ -17,7 +17,8 @@ use Rattle.c_tree.specs.Scope.{is_same_name}
 use Rattle.c_tree.specs.Step.{function_of}
 use Rattle.c_tree.specs.Names.{is_number, same_number, find_name, names_in, slot_names}
 use Rattle.c_tree.specs.Points.{is_kind, place_of, callee_at}
-use Rattle.c_tree.specs.Link.{Link, is_start, match_at, origin}
+use Rattle.c_tree.specs.StartForm.{is_start}
+use Rattle.c_tree.specs.Link.{Link, match_at, origin}
 use Rattle.c_tree.specs.MapExpr.{Reads, slots_of, fields_of, reads_of, only_globals, numbered, scalar_type}
 use Rattle.c_tree.specs.Suits.{match_of_callee, suits, slot_asked, suits_check}
 use Rattle.c_tree.specs.Entries.{clash, sound_entry}
@@ -40,10 +41,11 @@ abbrev pub lacks_side : Link → ℕ → List ℕ → Option (List ℕ) → Bool
 lacks_side k kind a None = not (has_name k.old kind a)
 lacks_side k kind a (Some b) = not (has_name k.old kind a && has_name k.new kind b)
 
--- the number of an old function, and the number of its match
+-- the number of an old function by its name
 abbrev pub old_function : Link → List ℕ → Option ℕ
 old_function k name = find_name name (names_in k.old 0)
 
+-- the number of the match of an old function, by the old one's name
 abbrev pub new_function : Link → List ℕ → Option ℕ
 new_function k name = option_and_then (match_at k.functions) (old_function k name)
 
@@ -115,10 +117,11 @@ can_fill k r asked x = some_passes (suits k r asked) (numbered r x.kind)
 abbrev pub type_named : List Slot → List ℕ → Option Ty
 type_named xs name = option_and_then (slot_asked xs) (find_name name (slot_names xs))
 
--- the number of a new struct, and of the old struct whose match it is
+-- the number of a new struct by its name
 abbrev pub new_struct : Link → List ℕ → Option ℕ
 new_struct k owner = find_name owner (names_in k.new 1)
 
+-- the number of the old struct that a new one is the match of, by the new one's name
 abbrev pub old_struct : Link → List ℕ → Option ℕ
 old_struct k owner = option_and_then (origin k.structs) (new_struct k owner)
 

@@ -61,6 +61,8 @@ pub refused_in_order : (p q : Lifted) (xs : List Entry) (why : PatchRefused) →
 refused_in_order p q xs (refused.Entry number cause) unlifted = record { is = ap (λ r. onward r (λ ys. Ok (canonical ys))) unlifted.is }
 refused_in_order p q xs (refused.Memory e) unlifted = tt
 
+pub ruleset order_rules = (in_order, refused_in_order)
+
 -- what is made of the canonical entries of a mapping is sound and in order
 pub made : (p q : Lifted) (m : Mapping) (given : List (At Entry)) (items es : List LEntry) → HasMapForm m → given ≡ m.entries → AreCanonical p q (map (λ x. x.it) given) items → es ≡ items
     → Sound p q es × (canonical es ≡ es)

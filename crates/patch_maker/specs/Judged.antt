@@ -23,6 +23,7 @@ pub record AreJudged (k : Link) (xs : List Entry) (es : List LEntry) : Type 0 wh
 pub record IsStop (k : Link) (xs : List Entry) (number : ℕ) (cause : EntryCause) : Type 0 where
   pub is : all_entries k 1 [] xs ≡ Err (record { entry = number; cause = cause })
 
+-- a refusal names the first unsound entry under a link, or memory was wanted
 abbrev pub Stops : Link → List Entry → PatchRefused → Type 0
 Stops k xs (refused.Entry number cause) = IsStop k xs number cause
 Stops k xs (refused.Memory e) = Unit {0}
@@ -35,6 +36,8 @@ pub record AreLifted (p q : Lifted) (xs : List Entry) (es : List LEntry) : Type 
 pub record IsUnlifted (p q : Lifted) (xs : List Entry) (number : ℕ) (cause : EntryCause) : Type 0 where
   pub is : lifted_entries p q xs ≡ Err (record { entry = number; cause = cause })
 
+-- a refusal names the first unsound entry of a mapping between two programs,
+-- or memory was wanted
 abbrev pub AreUnlifted : Lifted → Lifted → List Entry → PatchRefused → Type 0
 AreUnlifted p q xs (refused.Entry number cause) = IsUnlifted p q xs number cause
 AreUnlifted p q xs (refused.Memory e) = Unit {0}

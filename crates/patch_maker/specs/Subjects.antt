@@ -32,6 +32,7 @@ abbrev pub is_subject : Subject → Option Subject → Bool
 is_subject x None = false
 is_subject x (Some y) = is_same x y
 
+-- whether an entry is about a subject
 abbrev pub is_about : Subject → LEntry → Bool
 is_about x entry = is_subject x (first_subject entry) || is_subject x (second_subject entry)
 

@@ -27,7 +27,8 @@ fn sound_entry(
 ) -> Result<LEntry, EntryRefused>
     requires old { old.now ≡ k.now.old }
     requires new { new.now ≡ k.now.new }
-    ensures sound { (earlier : List Entry) (done : List LEntry) → Mirrors k.now earlier done → AreSubjects subjects.now done
+    ensures sound { (earlier : List Entry) (done : List LEntry) → Mirrors k.now earlier done
+        → AreSubjects subjects.now done
         → Gives result (spec.sound_entry k.now earlier entry.now) }
     ensures lifted { IfOk result (λ y. spec.lifted_entry k.now entry.now ≡ Ok y) }
 {

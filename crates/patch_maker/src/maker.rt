@@ -17,9 +17,14 @@ use std::alloc::Global;
 use std::marker::Model;
 
 /// A patch whose entries are sound and stand in their canonical order. Contracts see the patch.
-#[derive(Debug, Drop)]
 pub struct SoundPatch {
     patch: Patch,
+}
+
+impl Drop for SoundPatch {
+    fn drop(self) {
+        let SoundPatch { patch: _ } = self;
+    }
 }
 
 impl Model for SoundPatch {
@@ -43,6 +48,7 @@ impl Model for SoundPatch {
 }
 
 impl SoundPatch {
+    /// The patch. The functions of both its programs keep the limit of places.
     pub fn patch(&self) -> &Patch
         ensures same { result.now ≡ self.now }
         ensures old_limit { KeepsLimit self.now.old }
@@ -111,7 +117,8 @@ fn lifted_entries(
     requires old_limit { KeepsLimit old.now }
     requires new_limit { KeepsLimit new.now }
     ensures { let xs = map (λ x. x.it) mapping.now
-        in MatchResult result (λ v. AreLifted old.now new.now xs v.items) (AreUnlifted old.now new.now xs) }
+        in MatchResult result (λ v. AreLifted old.now new.now xs v.items)
+        (AreUnlifted old.now new.now xs) }
 {
     match Link::by_names(alloc, old, new, mapping) {
         Ok(k) => judged(alloc, &k, old, new, mapping),
@@ -120,7 +127,7 @@ fn lifted_entries(
 }
 
 /// The canonical entries of a mapping.
-#[tactic(auto, using(crate::proofs::MakerLemmas::in_order, crate::proofs::MakerLemmas::refused_in_order))]
+#[tactic(auto, using(crate::proofs::MakerLemmas::order_rules))]
 fn canonical_entries(
     alloc: Global,
     old: &Lifted,
@@ -130,7 +137,8 @@ fn canonical_entries(
     requires old_limit { KeepsLimit old.now }
     requires new_limit { KeepsLimit new.now }
     ensures { let xs = map (λ x. x.it) mapping.now
-        in MatchResult result (λ v. AreCanonical old.now new.now xs v.items) (AreRefused old.now new.now xs) }
+        in MatchResult result (λ v. AreCanonical old.now new.now xs v.items)
+        (AreRefused old.now new.now xs) }
 {
     let entries = lifted_entries(alloc, old, new, mapping)?;
     let entries = canonical(alloc, entries)?;
@@ -153,7 +161,8 @@ pub fn make_patch(
     requires old_limit { KeepsLimit old }
     requires new_limit { KeepsLimit new }
     requires form { HasMapForm mapping.now }
-    ensures { MatchResult result (IsPatch old_text old new_text new mapping.now) (IsRefusal old new mapping.now) }
+    ensures { MatchResult result (IsPatch old_text old new_text new mapping.now)
+        (IsRefusal old new mapping.now) }
 {
     let entries = canonical_entries(alloc, &old, &new, mapping.entries.as_slice())?;
     Ok(SoundPatch {

@@ -4,6 +4,7 @@ use c_tree::EntryCause;
 use std::alloc::AllocError;
 use thiserror::Error;
 
+/// Why no patch is made of a mapping.
 #[derive(Debug, Drop, Error)]
 pub enum PatchRefused {
     /// The entry of this number, from 1, is the first that is unsound, and this is its least cause.

@@ -11,7 +11,7 @@ use std::alloc::{AllocError, Global};
 use std::collections::HashSet;
 
 /// What an entry is about, by numbers.
-#[derive(Clone, Copy, PartialEq, Eq, Hash, Debug)]
+#[derive(Clone, Copy, PartialEq, Eq, Hash)]
 pub enum Subject {
     /// The kind of a match, and the old thing.
     OldSide(u8, u32),

@@ -1,7 +1,6 @@
 pub mod AnyLemmas
 pub mod ClaimLemmas
 pub mod MatchLemmas
-pub mod NumberLemmas
 pub mod SidesLemmas
 pub mod OriginLemmas
 pub mod NumberedLemmas

@@ -1,7 +1,4 @@
--- what the public contracts rest on
-pub mod Old
--- what the inner functions promise each other
-pub mod Numbers
+-- What the inner functions promise each other.
 pub mod Sides
 pub mod Matching
 pub mod Origins

@@ -35,17 +35,20 @@ abbrev pub old_is_taken : Sides → Option ℕ → Bool
 old_is_taken s None = false
 old_is_taken s (Some i) = is_said (slice_index_or s.said.items i Nothing)
 
+-- whether an entry names this new side, where it is there
 abbrev pub new_is_taken : Sides → Option ℕ → Bool
 new_is_taken s None = false
 new_is_taken s (Some j) = slice_index_or s.named.items j false
 
+-- whether an entry names one of these two sides
 abbrev pub is_taken : Sides → Option ℕ → Option ℕ → Bool
 is_taken s i j = old_is_taken s i || new_is_taken s j
 
--- whether a match entry is sound after those before, and what it claims
+-- whether a match entry is sound after those before
 abbrev pub stands_beside : Sides → ℕ → Lifted → Lifted → List ℕ → Option (List ℕ) → Bool
 stands_beside s kind old new a b = is_ok (lifted_match old new kind a b) && not (is_taken s (find_name a (names_in old kind)) (side_number kind new b))
 
+-- what a match entry claims after those before
 abbrev pub claim_beside : Sides → ℕ → Lifted → Lifted → List ℕ → Option (List ℕ) → Claim
 claim_beside s kind old new a b = claim (find_name a (names_in old kind)) (side_number kind new b) (stands_beside s kind old new a b)
 
@@ -65,6 +68,7 @@ match_from (Matched side) other = side
 match_from Named other = None
 match_from Nothing other = other
 
+-- the match of the i-th old thing of a kind, which has this name
 abbrev pub match_beside : Sides → ℕ → Lifted → Lifted → ℕ → List ℕ → Option ℕ
 match_beside s kind old new i name =
     match_from (slice_index_or s.said.items i Nothing) (free s.named.items (may kind old new i) (find_name name (names_in new kind)))

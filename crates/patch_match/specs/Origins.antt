@@ -5,6 +5,7 @@ use Rattle.std.specs.declared.hash.BuildHasherDefault.{BuildHasherDefault}
 use Rattle.indexmap.specs.IndexMap.{IndexMap, get}
 use Rattle.c_tree.specs.Link.{origin}
 
+-- a table from new things to old ones, by number
 abbrev pub Origins : Type 0
 Origins = IndexMap ℕ ℕ (BuildHasherDefault FoldHasher)
 

@@ -33,9 +33,11 @@ said_by named (Some c) = Matched c.new
 said_by true None = Named
 said_by false None = Nothing
 
+-- what claims say of the i-th old thing
 abbrev pub said_in : List Claim → ℕ → Said
 said_in claims i = said_by (list_any (λ c. is_number c.old i) claims) (find (λ c. is_number c.old i && c.stands) claims)
 
+-- whether a claim names the j-th new thing
 abbrev pub named_in : List Claim → ℕ → Bool
 named_in claims j = list_any (λ c. is_number c.new j) claims
 

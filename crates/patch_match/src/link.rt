@@ -6,23 +6,21 @@ ghost use Rattle.c_tree.specs.Entries as entries;
 ghost use Rattle.c_tree.specs.Names.{find_name, names_in};
 ghost use Rattle.patch_match.specs.Linking.{linking};
 
+use crate::backward::{Origins, origin_in, origins_of};
 use crate::matches::Matches;
-use crate::origins::origins;
 use crate::tables::Tables;
 use c_tree::{At, Entry, LEntry, Lifted, Name, Ty};
-use indexmap::IndexMap;
 use std::alloc::{AllocError, Global};
 use std::marker::Model;
 
 /// Two programs, and for each old thing the number of its match. Contracts see the link by which
 /// patches are defined.
-#[derive(Drop)]
 pub struct Link<'a> {
     old: Tables<'a>,
     new: Tables<'a>,
     matches: Matches,
     /// For each new struct that is a match the first old one that it is the match of.
-    origins: IndexMap<u32, u32>,
+    origins: Origins,
 }
 
 impl<'a> Model for Link<'a> {
@@ -39,6 +37,17 @@ impl<'a> Model for Link<'a> {
     ghost view = { λ k. linking k.old k.new k.matches };
 
     ghost invariant = { λ k. GivesOrigins k.origins k.matches.structs.items };
+}
+
+impl Drop for Link<'_> {
+    fn drop(self) {
+        let Link {
+            old: _,
+            new: _,
+            matches: _,
+            origins: _,
+        } = self;
+    }
 }
 
 impl<'a> Link<'a> {
@@ -77,40 +86,56 @@ impl<'a> Link<'a> {
         Ok(link)
     }
 
+    /// The old program.
     pub fn old(&self) -> &Tables<'a>
         ensures { result.now ≡ self.now.old }
     {
         &self.old
     }
 
+    /// The new program.
     pub fn new(&self) -> &Tables<'a>
         ensures { result.now ≡ self.now.new }
     {
         &self.new
     }
 
-    /// The match of an old function.
+    /// The number of the match of an old function; none where it has none or is not there.
     pub fn function(&self, f: u32) -> Option<u32>
         ensures { result ≡ spec.match_at self.now.functions f }
     {
         match_at(self.matches.functions.as_slice(), f)
     }
 
-    /// The match of an old struct.
+    /// The number of the match of an old struct.
     pub fn structure(&self, s: u32) -> Option<u32>
         ensures { result ≡ spec.match_at self.now.structs s }
     {
         match_at(self.matches.structs.as_slice(), s)
     }
 
-    /// The match of an old global.
+    /// The number of the match of an old global.
     pub fn global(&self, g: u32) -> Option<u32>
         ensures { result ≡ spec.match_at self.now.globals g }
     {
         match_at(self.matches.globals.as_slice(), g)
     }
 
-    /// The match of an old mutex.
+    /// The match of each old global.
+    pub fn globals(&self) -> &[Option<u32>]
+        ensures { result.now ≡ self.now.globals }
+    {
+        self.matches.globals.as_slice()
+    }
+
+    /// The match of each old mutex.
+    pub fn mutexes(&self) -> &[Option<u32>]
+        ensures { result.now ≡ self.now.mutexes }
+    {
+        self.matches.mutexes.as_slice()
+    }
+
+    /// The number of the match of an old mutex.
     pub fn mutex(&self, m: u32) -> Option<u32>
         ensures { result ≡ spec.match_at self.now.mutexes m }
     {
@@ -121,7 +146,7 @@ impl<'a> Link<'a> {
     pub fn origin(&self, s: u32) -> Option<u32>
         ensures { result ≡ spec.origin self.now.structs s }
     {
-        self.origins.get(&s).copied()
+        origin_in(&self.origins, s)
     }
 
     /// The match of the old struct of a name.
@@ -142,10 +167,10 @@ impl<'a> Link<'a> {
     {
         match old {
             Ty::Ptr(name) => points_to(&self.new, self.struct_named(name), new),
-            Ty::Int => matches!(new, Ty::Int),
+            Ty::Int => new.is_int(),
             Ty::Thread => matches!(new, Ty::Thread),
             Ty::Void => matches!(new, Ty::Void),
-            Ty::AnyPtr => matches!(new, Ty::AnyPtr),
+            Ty::AnyPtr => new.is_any_pointer(),
         }
     }
 }
@@ -158,7 +183,7 @@ fn joined<'a>(
 ) -> Result<Link<'a>, AllocError>
     ensures { IfOk result (λ k. k ≡ linking old.entry new.entry matches) }
 {
-    let origins = origins(alloc, matches.structs.as_slice())?;
+    let origins = origins_of(alloc, matches.structs.as_slice())?;
     Ok(Link {
         old,
         new,

@@ -11,12 +11,22 @@ use c_tree::{At, Entry, LEntry};
 use std::alloc::{AllocError, Global};
 
 /// For each old thing of each kind the number of its match.
-#[derive(Drop)]
 pub struct Matches {
     pub functions: Vec<Option<u32>>,
     pub structs: Vec<Option<u32>>,
     pub globals: Vec<Option<u32>>,
     pub mutexes: Vec<Option<u32>>,
+}
+
+impl Drop for Matches {
+    fn drop(self) {
+        let Matches {
+            functions: _,
+            structs: _,
+            globals: _,
+            mutexes: _,
+        } = self;
+    }
 }
 
 impl Matches {

@@ -8,7 +8,7 @@ ghost use Rattle.patch_match.specs.declared.sides.Said.TheVariants.{Nothing};
 use std::alloc::{AllocError, Global};
 
 /// What entries say of an old thing.
-#[derive(Clone, Copy, PartialEq, Eq, Debug)]
+#[derive(Clone, Copy, PartialEq, Eq)]
 pub enum Said {
     Nothing,
     /// Entries name it, but none of them is sound.
@@ -18,10 +18,15 @@ pub enum Said {
 }
 
 /// What entries say of the old things of one kind, and which new ones they name.
-#[derive(Debug, Drop)]
 pub struct Sides {
     pub said: Vec<Said>,
     pub named: Vec<bool>,
+}
+
+impl Drop for Sides {
+    fn drop(self) {
+        let Sides { said: _, named: _ } = self;
+    }
 }
 
 impl Said {

@@ -1,56 +1,49 @@
 //! Which functions a thread can start, and which matches keep that.
 
 ghost use Rattle.std.specs.Prelude.{◌≡◌};
-ghost use Rattle.c_tree.specs.Link as link;
+ghost use Rattle.c_tree.specs.StartForm as start;
 ghost use Rattle.c_tree.specs.Step.{function_of};
 ghost use Rattle.c_tree.specs.Suits as spec;
-ghost use Rattle.c_tree.specs.Names.{is_number};
-ghost use Rattle.c_tree.specs.Types as types;
 
-use c_tree::{LFunction, Lifted, Slot, Ty};
+use c_tree::{LFunction, Lifted, Slot, is_number};
 
-fn is_any_pointer(ty: &Ty) -> bool
-    ensures { result ≡ types.is_any_pointer ty.now }
+/// The parameters of a function, which are its first slots.
+#[tactic(auto, using(std::proofs::lemmas::List::take_all))]
+fn parameters(f: &LFunction) -> &[Slot]
+    ensures { result.now ≡ start.parameters_of f.now }
 {
-    match ty {
-        Ty::AnyPtr => true,
-        Ty::Int | Ty::Thread | Ty::Void | Ty::Ptr(_) => false,
+    let slots = f.slots.as_slice();
+    let count = f.params as usize;
+    if count < slots.len() {
+        &slots[..count]
+    } else {
+        slots
     }
 }
 
-/// Whether a first parameter is a `void *`.
-fn takes_pointer(slots: &[Slot]) -> bool
-    ensures { result ≡ link.takes_pointer slots.now }
+/// Whether some parameters are one `void *`.
+fn takes_one_pointer(parameters: &[Slot]) -> bool
+    ensures { result ≡ start.takes_one_pointer parameters.now }
 {
-    match slots.split_first() {
-        None => false,
-        Some((first, _)) => is_any_pointer(&first.ty),
+    match parameters {
+        [only] => only.ty.is_any_pointer(),
+        _ => false,
     }
 }
 
 /// Whether a function has the form `void *f(void *)`.
 fn has_start_form(f: &LFunction) -> bool
-    ensures { result ≡ link.is_start f.now }
+    ensures { result ≡ start.is_start f.now }
 {
-    is_any_pointer(&f.ret) && f.params == 1 && takes_pointer(f.slots.as_slice())
+    f.ret.is_any_pointer() && takes_one_pointer(parameters(f))
 }
 
 /// Whether a thread can start the function of a number.
 pub fn is_start(program: &Lifted, f: usize) -> bool
-    ensures { result ≡ link.is_start (function_of program.now f) }
+    ensures { result ≡ start.is_start (function_of program.now f) }
 {
     match program.functions.as_slice().get(f) {
         Some(f) => has_start_form(f),
-        None => false,
-    }
-}
-
-/// Whether a number is there and is this one.
-pub fn is_number(number: Option<u32>, n: u32) -> bool
-    ensures { result ≡ is_number number n }
-{
-    match number {
-        Some(m) => m == n,
         None => false,
     }
 }

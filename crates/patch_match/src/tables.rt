@@ -5,13 +5,12 @@ ghost use Rattle.std.specs.Option.{option_copied};
 ghost use Rattle.c_tree.specs.Names as spec;
 ghost use Rattle.c_tree.specs.Step.{function_of};
 
-use crate::index::Index;
 use c_tree::{LFunction, LGlobal, LStruct, Lifted, Name, Slot};
+use name_index::Index;
 use std::alloc::{AllocError, Global};
 use std::marker::Model;
 
 /// A program with the numbers of its names. Contracts see the program.
-#[derive(Drop)]
 pub struct Tables<'a> {
     program: &'a Lifted,
     functions: Index,
@@ -46,7 +45,23 @@ impl<'a> Model for Tables<'a> {
         × (t.fields.items ≡ map (λ s. slot_names s.fields) t.program.now.structs) };
 }
 
+impl Drop for Tables<'_> {
+    fn drop(self) {
+        let Tables {
+            program: _,
+            functions: _,
+            structs: _,
+            globals: _,
+            mutexes: _,
+            slots: _,
+            fields: _,
+        } = self;
+    }
+}
+
 impl<'a> Tables<'a> {
+    /// The program with tables of its names. More than 4,294,967,295 names of a kind count as want
+    /// of memory.
     pub fn of(alloc: Global, program: &'a Lifted) -> Result<Tables<'a>, AllocError>
         ensures { IfOk result (λ t. t ≡ program.now) }
     {
@@ -61,6 +76,7 @@ impl<'a> Tables<'a> {
         })
     }
 
+    /// The program itself.
     pub fn program(&self) -> &'a Lifted
         ensures { result.now ≡ self.now }
     {

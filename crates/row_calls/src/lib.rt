@@ -1,13 +1,27 @@
-//! Whole calls of the tool over files and sinks in memory, for tables of rows.
+//! Whole calls of a tool over files and sinks in memory, for tables of rows.
 //!
-//! It makes calls and says what they came to; that this is what a row wants is asserted by the
-//! tests above it.
+//! A row says what a call is made over and the text of what it comes to. The functions here make
+//! the calls of a table, and give a text of the rows that came to something else: that it is empty
+//! is asserted by the tests above. What the tool is they don't know: it is given by a `Tool`.
 #![tactic(auto)]
 
 mod call;
-mod outcome;
+mod compared;
+mod events;
+mod repeated;
 mod row;
+mod tool;
+mod update;
+mod verdict;
 
-pub use call::{Call, made, plain};
-pub use outcome::{Outcome, Wanted, held};
-pub use row::fields;
+pub use call::{Call, Faults, Shown, called};
+pub use compared::{compare, opened};
+pub use events::listing;
+pub use repeated::{Repeated, text_of};
+pub use row::{
+    CallRow, FaultRow, LongRow, SourceRow, called_on, differing_calls, differing_faults,
+    differing_long_sources, differing_sources,
+};
+pub use tool::Tool;
+pub use update::{ListingRow, Programs, UpdateRow, differing_listings, differing_updates};
+pub use verdict::{RowsDiffer, judged};

@@ -1,9 +1,124 @@
-//! Rows as text: ` | ` between the fields.
+//! Rows of single calls.
 
-/// The name, the source and the answer of a row; the source may have a ` | ` of its own. None where
-/// the row has fewer than two of them.
-pub fn fields(row: &str) -> Option<(&str, &str, &str)> {
-    let (name, rest) = row.split_once(" | ")?;
-    let (source, answer) = rest.rsplit_once(" | ")?;
-    Some((name, source, answer))
+use crate::call::{Call, Faults, Shown, called};
+use crate::compared::compare;
+use crate::repeated::{Repeated, text_of};
+use crate::tool::Tool;
+use std::alloc::{AllocError, Global};
+
+/// A call: its name, the words, the files by their names, and what it comes to.
+pub type CallRow<'a> = (&'a str, &'a str, &'a [(&'a str, &'a str)], &'a str);
+
+/// A call in which an access fails: its name, the words, which accesses fail, the files by their
+/// names, and what it comes to.
+pub type FaultRow<'a> = (&'a str, &'a str, Faults, &'a [(&'a str, &'a str)], &'a str);
+
+/// A call over a file `a.c`: its name, what the file holds, and what the call comes to.
+pub type SourceRow<'a> = (&'a str, &'a str, &'a str);
+
+/// A call over a long file `a.c`: its name, what the file holds, and what the call comes to.
+pub type LongRow<'a> = (&'a str, Repeated<'a>, &'a str);
+
+/// Makes the calls of a table, and tells of those rows that came to something else.
+///
+/// # Errors
+/// Memory for the files, the sinks and the texts.
+pub fn differing_calls<T: Tool>(
+    alloc: Global,
+    tool: &T,
+    rows: &[CallRow<'_>],
+) -> Result<String, AllocError> {
+    let mut differing = String::new(alloc);
+    for (name, words, files, wanted) in rows {
+        let call = Call {
+            words,
+            files,
+            faults: Faults::NONE,
+        };
+        let got = called(alloc, tool, &call, Shown::All)?;
+        compare(&mut differing, name, wanted, &got)?;
+    }
+    Ok(differing)
+}
+
+/// Makes the calls of a table of faults, and tells of those rows that came to something else.
+///
+/// # Errors
+/// Memory for the files, the sinks and the texts.
+pub fn differing_faults<T: Tool>(
+    alloc: Global,
+    tool: &T,
+    rows: &[FaultRow<'_>],
+) -> Result<String, AllocError> {
+    let mut differing = String::new(alloc);
+    for (name, words, faults, files, wanted) in rows {
+        let call = Call {
+            words,
+            files,
+            faults: *faults,
+        };
+        let got = called(alloc, tool, &call, Shown::All)?;
+        compare(&mut differing, name, wanted, &got)?;
+    }
+    Ok(differing)
+}
+
+/// What a call over a file `a.c` comes to.
+///
+/// # Errors
+/// Memory for the files, the sinks and the text.
+pub fn called_on<T: Tool>(
+    alloc: Global,
+    tool: &T,
+    words: &str,
+    source: &str,
+    shown: Shown,
+) -> Result<String, AllocError> {
+    let files = [("a.c", source)];
+    let call = Call {
+        words,
+        files: &files,
+        faults: Faults::NONE,
+    };
+    called(alloc, tool, &call, shown)
+}
+
+/// Makes the call with these words for each source of a table, and tells of those rows that came to
+/// something else.
+///
+/// # Errors
+/// Memory for the files, the sinks and the texts.
+pub fn differing_sources<T: Tool>(
+    alloc: Global,
+    tool: &T,
+    words: &str,
+    shown: Shown,
+    rows: &[SourceRow<'_>],
+) -> Result<String, AllocError> {
+    let mut differing = String::new(alloc);
+    for (name, source, wanted) in rows {
+        let got = called_on(alloc, tool, words, source, shown)?;
+        compare(&mut differing, name, wanted, &got)?;
+    }
+    Ok(differing)
+}
+
+/// Makes the call with these words for each long source of a table, and tells of those rows that
+/// came to something else.
+///
+/// # Errors
+/// Memory for the files, the sinks and the texts.
+pub fn differing_long_sources<T: Tool>(
+    alloc: Global,
+    tool: &T,
+    words: &str,
+    rows: &[LongRow<'_>],
+) -> Result<String, AllocError> {
+    let mut differing = String::new(alloc);
+    for (name, source, wanted) in rows {
+        let source = text_of(alloc, source)?;
+        let got = called_on(alloc, tool, words, &source, Shown::All)?;
+        compare(&mut differing, name, wanted, &got)?;
+    }
+    Ok(differing)
 }

@@ -1,3 +1,13 @@
+-- of unchanged functions
+pub mod SameLemmas
+pub mod StmtLemmas
+pub mod BodyLemmas
+-- of what fills new slots and fields
+pub mod After
+pub mod EntryLemmas
+pub mod SubjectLemmas
+pub mod CarryLemmas
+-- of frames
 pub mod KeptLemmas
 pub mod LinkLemmas
 pub mod FrameLemmas

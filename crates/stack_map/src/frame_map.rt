@@ -1,14 +1,12 @@
 //! What tells where frames go.
 
-ghost use Rattle.std.specs.Prelude.{◌≡◌, length, map};
-ghost use Rattle.std.specs.Coded.{Coded-set, coded_list};
-ghost use Rattle.c_tree.specs.Layout as layout;
-ghost use Rattle.c_tree.specs.contracts.place.Place as place;
-ghost use Rattle.fillings.specs.Subjects.{GivesFirst};
+ghost use Rattle.std.specs.Prelude.{◌≡◌, length};
+ghost use Rattle.stack_map.specs.Subjects.{GivesFirst};
 ghost use Rattle.stack_map.specs.Kept.{AreUnchanged};
+ghost use Rattle.stack_map.specs.PlacesOf.{ArePlacesOf, one_way};
 
+use crate::entries::Declared;
 use c_tree::{LEntry, Places};
-use fillings::Declared;
 use patch_match::Link;
 
 /// What tells where the frames of old threads go: how the two programs belong together, the entries
@@ -27,7 +25,7 @@ pub struct FrameMap<'a, 'b> {
     pub places: &'a Places,
     ghost first: { GivesFirst declared.now entries.now },
     ghost unchanged: { AreUnchanged link.now same.now },
-    ghost placed: { places.now.functions ≡ map layout.places link.now.old.functions } by { Coded-set (coded_list (coded_list place.the_row.coded)) _ _ },
+    ghost placed: { ArePlacesOf places.now.functions link.now.old } by { one_way places.now.functions link.now.old },
     // The link says of each old function whether it has a match.
     ghost whole: { length link.now.functions ≡ length link.now.old.functions },
 }

@@ -2,17 +2,18 @@
 
 ghost use Rattle.std.specs.Prelude.{◌≡◌, ◌++◌, ◌∷◌, [], List, MatchResult, OnOk, Ok};
 ghost use Rattle.c_tree.specs.MapStack as spec;
+ghost use Rattle.c_tree.specs.Step.{view_of};
 ghost use Rattle.c_tree.specs.declared.event.Reason.TheVariants as why;
 ghost use Rattle.c_tree.specs.declared.state.Frame as state;
-ghost use Rattle.fillings.specs.Refusal.{IsRefusal};
+ghost use Rattle.stack_map.specs.Refusal.{IsRefusal};
 ghost use Rattle.stack_map.specs.Moved as moved;
 
+use crate::end::MapEnd;
 use crate::frame_map::FrameMap;
 use crate::known::Known;
 use crate::parts::Part;
-use c_tree::{Frame, Reason, Row, State};
-use fillings::{MapEnd, Whose, filled};
-use patch_match::narrowed;
+use crate::values::{Whose, filled};
+use c_tree::{Frame, Reason, Row, State, narrowed};
 use std::alloc::{AllocError, Global};
 
 /// The frame that a part makes of an old frame, whose slots are filled in the old state.
@@ -24,7 +25,8 @@ fn part_frame(
     number: u32,
     frame: &Frame,
 ) -> Result<Frame, MapEnd>
-    ensures { let wanted = spec.part_frames (spec.frame_scope state.now frame.now) (λ j c. why.Slot thread number j c) 0 (moved.part part.now ∷ []) in
+    ensures { let wanted = spec.part_frames (view_of state.now frame.now)
+        (λ j c. why.Slot thread number j c) 0 (moved.part part.now ∷ []) in
         MatchResult result (λ f. wanted ≡ Ok (f ∷ [])) (IsRefusal wanted) }
 {
     match narrowed(part.fillings.len()) {
@@ -59,7 +61,8 @@ fn map_frame(
     frame: &Frame,
 ) -> Result<Frame, MapEnd>
     requires { moved.Tells m.now.link.now m.now.entries.now known.old }
-    ensures maps { let wanted = spec.map_frame m.now.link.now m.now.entries.now state.now thread number frame.now in
+    ensures maps { let wanted = spec.map_frame m.now.link.now m.now.entries.now state.now thread
+        number frame.now in
         MatchResult result (λ f. wanted ≡ Ok (f ∷ [])) (IsRefusal wanted) }
     ensures tells { OnOk result (moved.Tells m.now.link.now m.now.entries.now known.new) }
 {
@@ -94,7 +97,8 @@ pub fn map_frames(
     frames: &[Frame],
 ) -> Result<Row<Frame>, MapEnd>
     requires { moved.Tells m.now.link.now m.now.entries.now known.old }
-    ensures maps { let wanted = spec.map_frames m.now.link.now m.now.entries.now state.now thread 0 frames.now in
+    ensures maps { let wanted = spec.map_frames m.now.link.now m.now.entries.now state.now thread 0
+        frames.now in
         MatchResult result (λ fs. wanted ≡ Ok fs) (IsRefusal wanted) }
     ensures tells { OnOk result (moved.Tells m.now.link.now m.now.entries.now known.new) }
 {

@@ -11,12 +11,15 @@ use std::alloc::{AllocError, Global};
 /// often hold many frames at one place.
 #[derive(Drop)]
 pub struct Known {
+    /// The old function.
     pub function: u32,
     pub place: u32,
+    /// What a frame there becomes; none where the place has no map.
     pub part: Option<Part>,
 }
 
 impl Known {
+    /// What becomes of a frame at a place of an old function.
     pub fn at(
         alloc: Global,
         m: &FrameMap<'_, '_>,

@@ -6,10 +6,10 @@ ghost use Rattle.c_tree.specs.MapStack as spec;
 ghost use Rattle.stack_map.specs.Kept as kept;
 ghost use Rattle.stack_map.specs.Moved as moved;
 
+use crate::entries::declared_point;
 use crate::frame_map::FrameMap;
 use crate::slots::slot_fillings;
 use c_tree::{LExpr, LFill, PlaceKind, Row};
-use fillings::declared_point;
 use patch_match::Link;
 use std::alloc::{AllocError, Global};
 
@@ -94,7 +94,8 @@ fn kept_part(
     place: u32,
 ) -> Result<Option<Part>, AllocError>
     requires { match_at m.now.link.now.functions function ≡ Some to }
-    ensures { IfOk result (λ o. moved.parts o ≡ spec.unchanged_parts m.now.link.now function to place) }
+    ensures { IfOk result (λ o. moved.parts o
+        ≡ spec.unchanged_parts m.now.link.now function to place) }
 {
     if !is_kept(m, function, to, place) {
         return Ok(None);
@@ -109,7 +110,8 @@ pub fn part_at(
     function: u32,
     place: u32,
 ) -> Result<Option<Part>, AllocError>
-    ensures { IfOk result (λ o. moved.parts o ≡ spec.parts_at m.now.link.now m.now.entries.now function place) }
+    ensures { IfOk result (λ o. moved.parts o
+        ≡ spec.parts_at m.now.link.now m.now.entries.now function place) }
 {
     let to = match m.link.function(function) {
         Some(to) => to,

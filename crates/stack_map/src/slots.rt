@@ -7,8 +7,8 @@ ghost use Rattle.c_tree.specs.MapStack as spec;
 ghost use Rattle.c_tree.specs.Step.{function_of};
 ghost use Rattle.c_tree.specs.declared.lifted.LExpr.TheVariants as l;
 
+use crate::carry::carried;
 use c_tree::{LExpr, LFill, Row};
-use fillings::carried;
 use patch_match::Link;
 use std::alloc::{AllocError, Global};
 
@@ -29,7 +29,8 @@ fn slot_filling(
     slot: usize,
     old: Option<u32>,
 ) -> Result<LExpr, AllocError>
-    ensures { IfOk result (λ e. e ≡ filling (spec.fill_for fills.now slot) (option_map (λ i. l.Slot i) old)) }
+    ensures { IfOk result (λ e. e
+        ≡ filling (spec.fill_for fills.now slot) (option_map (λ i. l.Slot i) old)) }
 {
     for fill in fills {
         if fill.slot as usize == slot {
@@ -48,7 +49,8 @@ pub fn slot_fillings(
     fills: &[LFill],
 ) -> Result<Row<LExpr>, AllocError>
     ensures { IfOk result (λ es. es ≡
-        spec.slot_fillings k.now (function_of k.now.old f).slots fills.now (function_of k.now.new g).slots) }
+        spec.slot_fillings k.now (function_of k.now.old f).slots fills.now
+        (function_of k.now.new g).slots) }
 {
     let olds = k.old().slots(f);
     let mut made = Vec::new(alloc);

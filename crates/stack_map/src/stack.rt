@@ -2,15 +2,14 @@
 
 ghost use Rattle.std.specs.Prelude.{◌≡◌, IfOk, MatchResult, Ok};
 ghost use Rattle.c_tree.specs.MapStack as spec;
-ghost use Rattle.fillings.specs.Refusal.{IsRefusal};
+ghost use Rattle.stack_map.specs.Refusal.{IsRefusal};
 
+use crate::end::MapEnd;
 use crate::frame_map::FrameMap;
 use crate::frames::map_frames;
 use crate::known::Known;
 use crate::parts::has_map;
-use c_tree::{Frame, Reason, Row, State};
-use fillings::MapEnd;
-use patch_match::narrowed;
+use c_tree::{Frame, Reason, Row, State, narrowed};
 use std::alloc::{AllocError, Global};
 
 /// The reason against the first frame of a thread that has no map.
@@ -19,7 +18,8 @@ pub fn unmapped_frame(
     thread: u32,
     frames: &[Frame],
 ) -> Result<Option<Reason>, AllocError>
-    ensures { IfOk result (λ r. r ≡ spec.unmapped m.now.link.now m.now.entries.now thread 0 frames.now) }
+    ensures { IfOk result (λ r. r
+        ≡ spec.unmapped m.now.link.now m.now.entries.now thread 0 frames.now) }
 {
     for i in 0..frames.len() {
         if !has_map(m, frames[i].function, frames[i].place) {
@@ -39,7 +39,8 @@ pub fn map_stack(
     thread: u32,
     frames: &[Frame],
 ) -> Result<Row<Frame>, MapEnd>
-    ensures { let wanted = spec.map_stack m.now.link.now m.now.entries.now state.now thread frames.now in
+    ensures { let wanted = spec.map_stack m.now.link.now m.now.entries.now state.now thread
+        frames.now in
         MatchResult result (λ fs. wanted ≡ Ok fs) (IsRefusal wanted) }
 {
     match unmapped_frame(m, thread, frames) {

@@ -3,25 +3,26 @@
 ghost use Rattle.std.specs.Prelude.{◌≡◌, ◌++◌, ◌∷◌, [], IfOk, MatchResult, OnOk, Ok};
 ghost use Rattle.c_tree.specs.Refusal.{first_some};
 ghost use Rattle.c_tree.specs.Update as spec;
-ghost use Rattle.fillings.specs.Refusal.{IsRefusal};
+ghost use Rattle.stack_map.specs.Refusal.{IsRefusal};
 ghost use Rattle.stack_map.specs.Moved as moved;
 
+use crate::end::MapEnd;
 use crate::frame_map::FrameMap;
 use crate::frames::map_frames;
 use crate::known::Known;
 use crate::stack::unmapped_frame;
-use c_tree::{Frame, Reason, Row, State};
-use fillings::MapEnd;
-use patch_match::narrowed;
+use c_tree::{Frame, Reason, Row, State, narrowed};
 use std::alloc::{AllocError, Global};
 
-/// The reason against the first frame of a thread that has no map; one that has ended has no frames.
+/// The reason against the first frame of a thread that has no map; one that has ended has no
+/// frames.
 fn unmapped_in(
     m: &FrameMap<'_, '_>,
     number: usize,
     thread: &Option<Row<Frame>>,
 ) -> Result<Option<Reason>, AllocError>
-    ensures { IfOk result (λ r. r ≡ spec.thread_unmapped m.now.link.now m.now.entries.now number thread.now) }
+    ensures { IfOk result (λ r. r
+        ≡ spec.thread_unmapped m.now.link.now m.now.entries.now number thread.now) }
 {
     match thread {
         Some(frames) => unmapped_frame(m, narrowed(number)?, frames.as_slice()),
@@ -30,12 +31,14 @@ fn unmapped_in(
 }
 
 /// The reason against the first frame that has no map, of the first thread that has such a frame.
-/// Nothing is made. More than 4,294,967,296 threads, or frames of a thread, count as want of memory.
+/// Nothing is made. More than 4,294,967,296 threads, or frames of a thread, count as want of
+/// memory.
 pub fn unmapped(
     m: &FrameMap<'_, '_>,
     threads: &[Option<Row<Frame>>],
 ) -> Result<Option<Reason>, AllocError>
-    ensures { IfOk result (λ r. r ≡ first_some (spec.all_unmapped m.now.link.now m.now.entries.now 0 threads.now)) }
+    ensures { IfOk result (λ r. r
+        ≡ first_some (spec.all_unmapped m.now.link.now m.now.entries.now 0 threads.now)) }
 {
     for t in 0..threads.len() {
         if let Some(reason) = unmapped_in(m, t, &threads[t])? {
@@ -55,7 +58,8 @@ fn map_thread(
     thread: &Option<Row<Frame>>,
 ) -> Result<Option<Row<Frame>>, MapEnd>
     requires { moved.Tells m.now.link.now m.now.entries.now known.old }
-    ensures maps { let wanted = spec.map_thread m.now.link.now m.now.entries.now state.now number thread.now in
+    ensures maps { let wanted = spec.map_thread m.now.link.now m.now.entries.now state.now number
+        thread.now in
         MatchResult result (λ o. wanted ≡ Ok o) (IsRefusal wanted) }
     ensures tells { OnOk result (moved.Tells m.now.link.now m.now.entries.now known.new) }
 {
@@ -88,7 +92,8 @@ fn threads_from(
     state: &State,
 ) -> Result<Row<Option<Row<Frame>>>, MapEnd>
     requires { moved.Tells m.now.link.now m.now.entries.now known.old }
-    ensures { let wanted = spec.map_threads m.now.link.now m.now.entries.now state.now 0 state.now.threads in
+    ensures { let wanted = spec.map_threads m.now.link.now m.now.entries.now state.now 0
+        state.now.threads in
         MatchResult result (λ os. wanted ≡ Ok os) (IsRefusal wanted) }
 {
     let threads = state.threads.as_slice();
@@ -106,14 +111,15 @@ fn threads_from(
 }
 
 /// The new frames of all threads of a state; a thread that has ended stays ended. Refused is the
-/// first frame that has no map or a slot that traps. More than 4,294,967,296 threads, or frames of a
-/// thread, count as want of memory.
+/// first frame that has no map or a slot that traps. More than 4,294,967,296 threads, or frames of
+/// a thread, count as want of memory.
 pub fn map_threads(
     alloc: Global,
     m: &FrameMap<'_, '_>,
     state: &State,
 ) -> Result<Row<Option<Row<Frame>>>, MapEnd>
-    ensures { let wanted = spec.map_threads m.now.link.now m.now.entries.now state.now 0 state.now.threads in
+    ensures { let wanted = spec.map_threads m.now.link.now m.now.entries.now state.now 0
+        state.now.threads in
         MatchResult result (λ os. wanted ≡ Ok os) (IsRefusal wanted) }
 {
     // Any place will do to begin with.

@@ -1,7 +1,6 @@
 pub mod FieldsFrom
 pub mod GlobalLemmas
 pub mod LinkLemmas
-pub mod OriginLemmas
 pub mod OwnersFrom
 pub mod StructLemmas
 pub mod UpdateLemmas

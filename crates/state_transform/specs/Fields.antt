@@ -12,7 +12,7 @@ use Rattle.c_tree.specs.declared.state.Object.{Object}
 use Rattle.c_tree.specs.declared.state.State.{State}
 use Rattle.c_tree.specs.Fillings.{carried, filled, filling}
 use Rattle.c_tree.specs.Link.{Link, match_at}
-use Rattle.c_tree.specs.MapHeap.{field_fillings, field_for, object_scope}
+use Rattle.c_tree.specs.MapHeap.{field_fillings, field_for, object_view}
 use Rattle.c_tree.specs.Refusal.{first_some, onward}
 use Rattle.state_transform.specs.declared.fields.StructMap.{StructMap}
 
@@ -35,5 +35,5 @@ AreStructMaps k entries made = made ≡ map (struct_map k entries) (range_with_l
 -- an object whose struct becomes another, in the old state
 abbrev pub object_to : StructMap → State → ℕ → Object → Result (Option Object) Reason
 object_to m s number o =
-    onward (filled (object_scope s o) (λ j c. why.Field number j c) 0 m.fillings) (λ vs.
+    onward (filled (object_view s o) (λ j c. why.Field number j c) 0 m.fillings) (λ vs.
     Ok (Some (record { owner = m.owner; fields = vs })))

@@ -1,5 +1,5 @@
 -- What the public contracts rest on.
-pub use Rattle.fillings.specs.Refusal
+pub use Rattle.stack_map.specs.Refusal
 pub mod Parts
 pub mod Whole
 -- What the inner functions promise each other.

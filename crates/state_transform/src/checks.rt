@@ -3,15 +3,14 @@
 ghost use Rattle.std.specs.Prelude.{◌≡◌, IfOk};
 ghost use Rattle.std.specs.Option.{option_map};
 ghost use Rattle.c_tree.specs.Refusal.{first_some};
-ghost use Rattle.c_tree.specs.MapGlobals.{global_scope};
+ghost use Rattle.c_tree.specs.MapGlobals.{global_view};
 ghost use Rattle.c_tree.specs.Update as spec;
 ghost use Rattle.c_tree.specs.Value as values;
 ghost use Rattle.state_transform.specs.Checked.{check_of};
 
 use c_tree::value::{is_true, value};
-use c_tree::{LEntry, LExpr, Reason, State};
-use fillings::code;
-use patch_match::narrowed;
+use c_tree::{LEntry, LExpr, Reason, State, narrowed};
+use stack_map::code;
 use std::alloc::AllocError;
 
 /// The expression of an entry that is a check.
@@ -30,7 +29,7 @@ fn check_of(entry: &LEntry) -> Option<&LExpr>
 /// A check fails where it is 0 or traps.
 fn failed_check(state: &State, number: u32, check: &LExpr) -> Option<Reason>
     ensures { result ≡
-        spec.failed_check number (values.value (global_scope state.now) check.now) }
+        spec.failed_check number (values.value (global_view state.now) check.now) }
 {
     match value(
         check,

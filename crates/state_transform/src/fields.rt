@@ -6,12 +6,12 @@ ghost use Rattle.c_tree.specs.Fillings.{filling};
 ghost use Rattle.c_tree.specs.MapHeap as spec;
 ghost use Rattle.c_tree.specs.Names.{struct_of};
 ghost use Rattle.c_tree.specs.declared.lifted.LExpr.TheVariants as l;
-ghost use Rattle.fillings.specs.Subjects.{GivesFirst};
+ghost use Rattle.stack_map.specs.Subjects.{GivesFirst};
 ghost use Rattle.state_transform.specs.Fields as fields;
 
-use c_tree::{LEntry, LExpr, Row, Slot};
-use fillings::{Declared, carried, declared_field};
-use patch_match::{Link, narrowed};
+use c_tree::{LEntry, LExpr, Row, Slot, narrowed};
+use patch_match::Link;
+use stack_map::{Declared, carried, declared_field};
 use std::alloc::{AllocError, Global};
 
 /// What the objects of an old struct become.

@@ -5,15 +5,14 @@ ghost use Rattle.std.specs.Option.{option_map};
 ghost use Rattle.c_tree.specs.Link as link;
 ghost use Rattle.c_tree.specs.MapGlobals as spec;
 ghost use Rattle.c_tree.specs.Value as values;
-ghost use Rattle.fillings.specs.Subjects.{GivesFirst};
-ghost use Rattle.fillings.specs.Refusal.{IsRefusal};
+ghost use Rattle.stack_map.specs.Subjects.{GivesFirst};
+ghost use Rattle.stack_map.specs.Refusal.{IsRefusal};
 ghost use Rattle.patch_match.specs.Origins.{GivesOrigins};
 
-use crate::origins::{Origins, origin};
 use c_tree::value::value;
-use c_tree::{LEntry, LExpr, LGlobal, Reason, Row, State, Trap, Ty};
-use fillings::{Declared, MapEnd, code, declared_init};
-use patch_match::{Link, narrowed};
+use c_tree::{LEntry, LExpr, LGlobal, Reason, Row, State, Trap, Ty, narrowed};
+use patch_match::{Link, Origins, origin_in};
+use stack_map::{Declared, MapEnd, code, declared_init};
 use std::alloc::{AllocError, Global};
 
 /// Whether an old global carries its values over to a new one: it has the same image type, and both
@@ -92,7 +91,7 @@ fn values_at(state: &State, old: Option<u32>) -> &[i32]
 
 /// The value of an expression in the old state, which reads globals and the heap.
 fn value_in(state: &State, filling: &LExpr) -> Result<i32, Trap>
-    ensures { result ≡ values.value (spec.global_scope state.now) filling.now }
+    ensures { result ≡ values.value (spec.global_view state.now) filling.now }
 {
     value(
         filling,
@@ -111,7 +110,7 @@ fn scalar_value(
     old: Option<u32>,
     init: i32,
 ) -> Result<i32, Trap>
-    ensures { result ≡ values.value (spec.global_scope state.now)
+    ensures { result ≡ values.value (spec.global_view state.now)
         (spec.global_filling (option_map (λ r. r.now) declared.entry) old init) }
 {
     match declared {
@@ -187,7 +186,7 @@ fn taken(k: &Link<'_>, origins: &Origins, g: u32, global: &LGlobal) -> Option<u3
     requires { GivesOrigins origins.now k.now.globals }
     ensures { result ≡ spec.if_carried k.now global.now (link.origin k.now.globals g) }
 {
-    if_carried(k, global, origin(origins, g))
+    if_carried(k, global, origin_in(origins, g))
 }
 
 /// The values of the new global of number `g`.

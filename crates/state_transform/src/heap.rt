@@ -3,15 +3,15 @@
 ghost use Rattle.std.specs.Prelude.{◌≡◌, ◌++◌, ◌∷◌, [], IfOk, OnOk, MatchResult, Ok, Some, length};
 ghost use Rattle.std.specs.Option.{option_map};
 ghost use Rattle.c_tree.specs.MapHeap as spec;
-ghost use Rattle.fillings.specs.Refusal.{IsRefusal};
-ghost use Rattle.fillings.specs.Subjects.{GivesFirst};
+ghost use Rattle.stack_map.specs.Refusal.{IsRefusal};
+ghost use Rattle.stack_map.specs.Subjects.{GivesFirst};
 ghost use Rattle.state_transform.specs.Fields as fields;
 ghost use Rattle.state_transform.specs.Whole.{IsWhole};
 
 use crate::fields::{StructMap, struct_maps};
-use c_tree::{Heap, LEntry, Object, Reason, Row, State};
-use fillings::{Declared, MapEnd, Whose, filled};
-use patch_match::{Link, narrowed};
+use c_tree::{Heap, LEntry, Object, Reason, Row, State, narrowed};
+use patch_match::Link;
+use stack_map::{Declared, MapEnd, Whose, filled};
 use std::alloc::{AllocError, Global};
 
 /// What tells what becomes of objects: how the two programs belong together, and what is found of

@@ -1,8 +1,8 @@
 //! How an old state becomes a new one.
 //!
 //! The layer above rests on two contracts: `updated` gives the parts of the state that a patch
-//! leads to, or the first reason against it, and leaves the old state as it is; `put_parts` puts
-//! the parts into the state, and takes no memory.
+//! leads to, or the first reason against it, and leaves the old state as it is; `Parts::put_into`
+//! puts the parts into the state, and takes no memory.
 #![tactic(auto)]
 
 mod checks;
@@ -10,14 +10,11 @@ mod fields;
 mod globals;
 mod heap;
 mod mutexes;
-mod origins;
 mod parts;
 mod update;
 
-pub use fillings::MapEnd;
 pub use globals::map_globals;
 pub use heap::map_heap;
 pub use mutexes::map_mutexes;
-pub use origins::{Origins, global_origins};
-pub use parts::{Parts, put_parts};
+pub use parts::Parts;
 pub use update::updated;

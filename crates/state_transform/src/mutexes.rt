@@ -3,14 +3,12 @@
 ghost use Rattle.std.specs.Prelude.{◌≡◌, IfOk, MatchResult, Ok};
 ghost use Rattle.c_tree.specs.Link as link;
 ghost use Rattle.c_tree.specs.MapMutexes as spec;
-ghost use Rattle.fillings.specs.Refusal.{IsRefusal};
+ghost use Rattle.stack_map.specs.Refusal.{IsRefusal};
 ghost use Rattle.patch_match.specs.Origins.{GivesOrigins};
-ghost use Rattle.state_transform.specs.Whole.{IsWhole};
 
-use crate::origins::{Origins, mutex_origins, origin};
-use c_tree::{Reason, Row, State};
-use fillings::MapEnd;
-use patch_match::{Link, narrowed};
+use c_tree::{Reason, Row, State, narrowed};
+use patch_match::{Link, Origins, origin_in, origins_of};
+use stack_map::MapEnd;
 use std::alloc::{AllocError, Global};
 
 /// The first mutex that is held and has no match, as a reason. More than 4,294,967,296 mutexes
@@ -51,7 +49,7 @@ fn owner_of(
     requires { GivesOrigins origins.now k.now.mutexes }
     ensures { IfOk result (λ o. o ≡ spec.owner_at state.now (link.origin k.now.mutexes m)) }
 {
-    let old = origin(origins, narrowed(m)?);
+    let old = origin_in(origins, narrowed(m)?);
     Ok(owner_at(state, old))
 }
 
@@ -79,16 +77,14 @@ pub fn new_owners(
     k: &Link<'_>,
     state: &State,
 ) -> Result<Row<Option<u32>>, AllocError>
-    requires { IsWhole k.now }
     ensures { IfOk result (λ os. os ≡ spec.new_owners k.now state.now) }
 {
-    let origins = mutex_origins(alloc, k)?;
+    let origins = origins_of(alloc, k.mutexes())?;
     owners_by(alloc, k, &origins, state)
 }
 
 /// Who holds each new mutex. Refused is the first mutex that is held and has no match.
 pub fn map_mutexes(alloc: Global, k: &Link<'_>, state: &State) -> Result<Row<Option<u32>>, MapEnd>
-    requires { IsWhole k.now }
     ensures { let wanted = spec.map_mutexes k.now state.now in
         MatchResult result (λ os. wanted ≡ Ok os) (IsRefusal wanted) }
 {

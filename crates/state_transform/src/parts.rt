@@ -6,7 +6,6 @@ ghost use Rattle.state_transform.specs.Parts.{with_parts};
 use c_tree::{Frame, Heap, Row, State};
 
 /// The parts of a state that an update changes; the input that is left and the output stay.
-#[derive(Drop)]
 pub struct Parts {
     /// The values of each new global: one of a scalar, its elements of an array.
     pub globals: Row<Row<i32>>,
@@ -17,18 +16,33 @@ pub struct Parts {
     pub threads: Row<Option<Row<Frame>>>,
 }
 
-/// Puts new parts into a state, and drops the old ones. It takes no memory.
-pub fn put_parts(state: &mut State, parts: Parts)
-    ensures { state.new ≡ with_parts parts state.old }
-{
-    let Parts {
-        globals,
-        heap,
-        mutexes,
-        threads,
-    } = parts;
-    state.globals = globals;
-    state.heap = heap;
-    state.mutexes = mutexes;
-    state.threads = threads;
+impl Drop for Parts {
+    fn drop(self) {
+        let Parts {
+            globals: _,
+            heap: _,
+            mutexes: _,
+            threads: _,
+        } = self;
+    }
+}
+
+impl Parts {
+    ghost use Rattle.state_transform.specs.Parts.{with_parts};
+
+    /// Puts the parts into a state, and drops its old ones. It takes no memory.
+    pub fn put_into(self, state: &mut State)
+        ensures { state.new ≡ with_parts self state.old }
+    {
+        let Parts {
+            globals,
+            heap,
+            mutexes,
+            threads,
+        } = self;
+        state.globals = globals;
+        state.heap = heap;
+        state.mutexes = mutexes;
+        state.threads = threads;
+    }
 }

@@ -5,8 +5,8 @@ ghost use Rattle.c_tree.specs.Layout as layout;
 ghost use Rattle.c_tree.specs.MapGlobals as globals;
 ghost use Rattle.c_tree.specs.Update as spec;
 ghost use Rattle.c_tree.specs.Update.{update};
-ghost use Rattle.fillings.specs.Refusal.{IsRefusal};
-ghost use Rattle.fillings.specs.Subjects.{GivesFirst};
+ghost use Rattle.stack_map.specs.Refusal.{IsRefusal};
+ghost use Rattle.stack_map.specs.Subjects.{GivesFirst};
 ghost use Rattle.state_transform.specs.Mapped as mapped;
 ghost use Rattle.state_transform.specs.Parts.{with_parts};
 ghost use Rattle.state_transform.specs.Whole.{IsWhole};
@@ -15,12 +15,10 @@ use crate::checks::failed;
 use crate::globals::map_globals;
 use crate::heap::{map_objects, removed};
 use crate::mutexes::{held, new_owners};
-use crate::origins::global_origins;
 use crate::parts::Parts;
 use c_tree::{Heap, LEntry, Object, Patch, Places, Reason, Row, State};
-use fillings::{Declared, MapEnd, declared};
-use patch_match::Link;
-use stack_map::{FrameMap, map_threads, unchanged_functions, unmapped};
+use patch_match::{Link, origins_of};
+use stack_map::{Declared, FrameMap, MapEnd, declared, map_threads, unchanged_functions, unmapped};
 use std::alloc::{AllocError, Global};
 
 /// What is refused before any new value is computed: a frame without a map, then a held mutex and
@@ -45,11 +43,10 @@ fn refusal(m: &FrameMap<'_, '_>, state: &State) -> Result<Option<Reason>, AllocE
 
 /// The values of the new globals.
 fn globals_by(alloc: Global, m: &FrameMap<'_, '_>, state: &State) -> Result<Row<Row<i32>>, MapEnd>
-    requires { IsWhole m.now.link.now }
     ensures { let wanted = globals.map_globals m.now.link.now m.now.entries.now state.now in
         MatchResult result (λ gs. wanted ≡ Ok gs) (IsRefusal wanted) }
 {
-    match global_origins(alloc, m.link) {
+    match origins_of(alloc, m.link.globals()) {
         Ok(origins) => map_globals(alloc, m.link, m.entries, m.declared, &origins, state),
         Err(e) => Err(MapEnd::Memory(e)),
     }
@@ -63,7 +60,6 @@ fn with_threads(
     globals: Row<Row<i32>>,
     objects: Row<Option<Object>>,
 ) -> Result<Parts, MapEnd>
-    requires { IsWhole m.now.link.now }
     ensures { let wanted =
         mapped.with_threads m.now.link.now m.now.entries.now state.now globals objects in
         MatchResult result (λ ps. wanted ≡ Ok (with_parts ps state.now)) (IsRefusal wanted) }

@@ -12,7 +12,8 @@ use Rattle.c_tree.specs.declared.state.Trap.{Trap}
 use Rattle.c_tree.specs.declared.state.Trap.TheVariants as trap
 use Rattle.c_tree.specs.Value.{and_then, element, object, object_of}
 use Rattle.c_tree.specs.Step as step
-use Rattle.c_tree.specs.Step.{Turn, Outcome, Trapped, Blocked, on, goes, top, set_slot, field_count}
+use Rattle.c_tree.specs.Limits.{max_objects, max_output}
+use Rattle.c_tree.specs.Step.{Acting, Outcome, Trapped, Blocked, on, goes, top, set_slot, field_count}
 use Rattle.store_mem.specs.Access.{values_of, written, field_written, made, freed, locked, locked_from, unlocked, unlocked_from, got, got_from, put, holder_of}
 use Rattle.store_mem.specs.Laws as law
 use Rattle.store_mem.specs.Laws.{with_threads}
@@ -52,7 +53,7 @@ first xs h = ap (λ b. if b then Ok (slice_index_or xs 0 (pos 0)) else Err trap.
 
 -- a step makes these accesses
 pub reads-first : law.ReadsFirst
-reads-first st f g h = first (values_of st g) h ∙ sym (value-Global (step.scope_of st f) g)
+reads-first st f g h = first (values_of st g) h ∙ sym (value-Global (step.view_of st f) g)
 
 pub stores-element : law.StoresElement
 stores-element st g at f v = then_ok (element (values_of st g) at) _ _
@@ -71,10 +72,10 @@ makes-object w n slot owner =
     let count = length w.state.heap.objects in
     let new : ℕ → ℤ × State = λ k. (pos (count + 1), step.with_object w.state (record { owner = owner; fields = replicate k (pos 0) })) in
     let go : ℤ × State → Outcome = λ r. goes w n r.1 (set_slot slot r.0 (top w)) in
-    ap (λ k. if nat_lt count step.max_objects then go (new k) else Trapped trap.Objects) (counted w.program owner)
-    ∙ on_if (nat_lt count step.max_objects) (new (slice_index_or (field_counts w.program) owner 0)) trap.Objects go
+    ap (λ k. if nat_lt count max_objects then go (new k) else Trapped trap.Objects) (counted w.program owner)
+    ∙ on_if (nat_lt count max_objects) (new (slice_index_or (field_counts w.program) owner 0)) trap.Objects go
 
-got_step : (w : Turn) (n slot : ℕ) (input : List ℕ) → step.got w n slot input ≡ goes w n (got_from w.state input).1 (set_slot slot (got_from w.state input).0 (top w))
+got_step : (w : Acting) (n slot : ℕ) (input : List ℕ) → step.got w n slot input ≡ goes w n (got_from w.state input).1 (set_slot slot (got_from w.state input).0 (top w))
 got_step w n slot [] = refl
 got_step w n slot (c ∷ rest) = refl
 
@@ -82,9 +83,9 @@ pub gets-byte : law.GetsByte
 gets-byte w n slot = got_step w n slot w.state.input
 
 pub puts-text : law.PutsText
-puts-text w n text args = on_same (step.values_in w args) _ _ (λ vs. on_if (nat_le (length (w.state.output ++ step.printed text vs)) step.max_output) _ _ _)
+puts-text w n text args = on_same (step.values_in w args) _ _ (λ vs. on_if (nat_le (length (w.state.output ++ step.printed text vs)) max_output) _ _ _)
 
-freed_step : (w : Turn) (n : ℕ) (o : ℤ) → step.freed w n o ≡ on (freed w.state o) (λ next. goes w n next (top w))
+freed_step : (w : Acting) (n : ℕ) (o : ℤ) → step.freed w n o ≡ on (freed w.state o) (λ next. goes w n next (top w))
 freed_step w n (pos zero) = refl
 freed_step w n (pos (suc k)) = on_then (object w.state.heap.objects (pos (suc k))) _ _
 freed_step w n (negsuc k) = refl
@@ -92,14 +93,14 @@ freed_step w n (negsuc k) = refl
 pub frees-object : law.FreesObject
 frees-object w n x = on_same (step.value_in w x) _ _ (freed_step w n)
 
-locked_step : (w : Turn) (n m : ℕ) (h : Option ℕ) → step.locked w n m h ≡ on (locked_from w.state m w.thread h) (λ r. if r.0 then goes w n r.1 (top w) else Blocked)
+locked_step : (w : Acting) (n m : ℕ) (h : Option ℕ) → step.locked w n m h ≡ on (locked_from w.state m w.thread h) (λ r. if r.0 then goes w n r.1 (top w) else Blocked)
 locked_step w n m None = refl
 locked_step w n m (Some owner) = on_else (owner == w.thread) (false, w.state) trap.Relock (λ r. if r.0 then goes w n r.1 (top w) else Blocked)
 
 pub locks-mutex : law.LocksMutex
 locks-mutex w n m = locked_step w n m (holder_of w.state m)
 
-unlocked_step : (w : Turn) (n m : ℕ) (h : Option ℕ) → step.unlocked w n m h ≡ on (unlocked_from w.state m w.thread h) (λ next. goes w n next (top w))
+unlocked_step : (w : Acting) (n m : ℕ) (h : Option ℕ) → step.unlocked w n m h ≡ on (unlocked_from w.state m w.thread h) (λ next. goes w n next (top w))
 unlocked_step w n m None = refl
 unlocked_step w n m (Some owner) = on_if (owner == w.thread) _ _ _
 
@@ -114,7 +115,7 @@ pub field_written-threads : (o : ℤ) (owner field : ℕ) (v : ℤ) → law.Igno
 field_written-threads o owner field v ts st = then_ok (object_of st.heap.objects o owner) _ _
 
 pub made-threads : (fields : List ℕ) (owner : ℕ) → law.GivesIgnoringThreads (λ s. made fields s owner)
-made-threads fields owner ts st = then_if (nat_lt (length st.heap.objects) step.max_objects) _ _ _
+made-threads fields owner ts st = then_if (nat_lt (length st.heap.objects) max_objects) _ _ _
 
 pub freed-threads : (o : ℤ) → law.IgnoresThreads (λ s. freed s o)
 freed-threads (pos zero) ts st = refl
@@ -143,4 +144,4 @@ pub got-threads : law.GivesIgnoringThreads (λ s. Ok (got s))
 got-threads ts st = got_from-threads st.input ts st
 
 pub put-threads : (text : List ℕ) → law.IgnoresThreads (λ s. put s text)
-put-threads text ts st = then_if (nat_le (length (st.output ++ text)) step.max_output) _ _ _
+put-threads text ts st = then_if (nat_le (length (st.output ++ text)) max_output) _ _ _

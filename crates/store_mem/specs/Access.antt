@@ -5,7 +5,8 @@ use Rattle.c_tree.specs.declared.state.State.{State}
 use Rattle.c_tree.specs.declared.state.Trap.{Trap}
 use Rattle.c_tree.specs.declared.state.Trap.TheVariants as trap
 use Rattle.c_tree.specs.Value.{and_then, element, object, object_of}
-use Rattle.c_tree.specs.Step.{index, set_global, set_field, set_object, with_object, max_objects, max_output}
+use Rattle.c_tree.specs.Step.{index, set_global, set_field, set_object, with_object}
+use Rattle.c_tree.specs.Limits.{max_objects, max_output}
 
 -- the values of a global: one of a scalar, and all of an array
 abbrev pub values_of : State → ℕ → List ℤ
@@ -35,6 +36,7 @@ abbrev pub freed : State → ℤ → Result State Trap
 freed s (pos zero) = Ok s
 freed s o = and_then (object s.heap.objects o) (λ _. Ok (set_object s (index o - 1) None))
 
+-- the struct of an object, where there is one
 abbrev pub owner_in : Result Object Trap → Option ℕ
 owner_in (Ok o) = Some o.owner
 owner_in (Err cause) = None
@@ -47,9 +49,11 @@ struct_of s o = owner_in (object s.heap.objects o)
 abbrev pub holder_of : State → ℕ → Option ℕ
 holder_of s mutex = slice_index_or s.mutexes mutex None
 
+-- a state in which a thread, or none, holds a mutex
 abbrev pub with_holder : State → ℕ → Option ℕ → State
 with_holder s mutex holder = record s { mutexes = slice_set s.mutexes mutex holder }
 
+-- a lock by thread t, where this holder has the mutex or none: whether t takes it, and the state
 abbrev pub locked_from : State → ℕ → ℕ → Option ℕ → Result (Bool × State) Trap
 locked_from s mutex t None = Ok (true, with_holder s mutex (Some t))
 locked_from s mutex t (Some holder) = if holder == t then Err trap.Relock else Ok (false, s)
@@ -58,6 +62,7 @@ locked_from s mutex t (Some holder) = if holder == t then Err trap.Relock else O
 abbrev pub locked : State → ℕ → ℕ → Result (Bool × State) Trap
 locked s mutex t = locked_from s mutex t (holder_of s mutex)
 
+-- an unlock by thread t, where this holder has the mutex or none
 abbrev pub unlocked_from : State → ℕ → ℕ → Option ℕ → Result State Trap
 unlocked_from s mutex t None = Err trap.Unlock
 unlocked_from s mutex t (Some holder) = if holder == t then Ok (with_holder s mutex None) else Err trap.Unlock
@@ -66,6 +71,7 @@ unlocked_from s mutex t (Some holder) = if holder == t then Ok (with_holder s mu
 abbrev pub unlocked : State → ℕ → ℕ → Result State Trap
 unlocked s mutex t = unlocked_from s mutex t (holder_of s mutex)
 
+-- the first byte of what is left of the input, or -1 at its end, and the state
 abbrev pub got_from : State → List ℕ → ℤ × State
 got_from s [] = (negsuc 0, s)
 got_from s (c ∷ rest) = (pos c, record s { input = rest })

@@ -3,60 +3,66 @@ use Rattle.std.specs.Prelude.{◌≡◌, ℕ, ◌<◌, ℤ, pos, if◌then◌els
 use Rattle.c_tree.specs.declared.lifted.LExpr.{LExpr}
 use Rattle.c_tree.specs.declared.lifted.LExpr.TheVariants as e
 use Rattle.c_tree.specs.declared.lifted.LStmt.TheVariants as s
-use Rattle.c_tree.specs.declared.place.Spot.{Spot}
-use Rattle.c_tree.specs.declared.place.Spot.TheVariants.{InGlobal, InArray, InObject}
+use Rattle.c_tree.specs.declared.place.Location.{Location}
+use Rattle.c_tree.specs.declared.place.Location.TheVariants.{InGlobal, InArray, InObject}
 use Rattle.c_tree.specs.declared.state.Frame.{Frame}
 use Rattle.c_tree.specs.declared.state.State.{State}
 use Rattle.c_tree.specs.declared.state.Trap.{Trap}
 use Rattle.c_tree.specs.Value.{and_then, element, value}
-use Rattle.c_tree.specs.Step.{Turn, Blocked, on, done, goes, printed, scope_of, set_slot, stored, top, value_in, values_in}
+use Rattle.c_tree.specs.Step.{Acting, Blocked, on, done, goes, printed, view_of, set_slot, stored, top, value_in, values_in}
 use Rattle.store_mem.specs.Access.{values_of, written, field_written, made, freed, locked, unlocked, got, put}
 use Rattle.store_mem.specs.Memory.{field_counts}
 
 -- a scalar's value is the first of its values
 abbrev pub ReadsFirst : Type 0
 ReadsFirst =
-    (st : State) (f : Frame) (g : ℕ) → 0 < length (values_of st g) → element (values_of st g) (pos 0) ≡ value (scope_of st f) (e.Global g)
+    (st : State) (f : Frame) (g : ℕ) → 0 < length (values_of st g) → element (values_of st g) (pos 0) ≡ value (view_of st f) (e.Global g)
 
 -- a store in a state and its innermost frame is a write in the state
-abbrev pub StoresBy : Spot → (State → ℤ → Result State Trap) → State → Type 0
+abbrev pub StoresBy : Location → (State → ℤ → Result State Trap) → State → Type 0
 StoresBy to write st = (f : Frame) (v : ℤ) → stored st f to v ≡ and_then (write st v) (λ next. Ok (next, f))
 
+-- a store in a scalar is a write in its one value
 abbrev pub StoresFirst : Type 0
 StoresFirst = (st : State) (g : ℕ) → 0 < length (values_of st g) → StoresBy (InGlobal g) (λ s v. written s g (pos 0) v) st
 
+-- a store in an array is a write in an element
 abbrev pub StoresElement : Type 0
 StoresElement = (st : State) (g : ℕ) (at : ℤ) → StoresBy (InArray g at) (λ s v. written s g at v) st
 
+-- a store in an object is a write in a field
 abbrev pub StoresField : Type 0
 StoresField = (st : State) (o : ℤ) (owner field : ℕ) → StoresBy (InObject o owner field) (λ s v. field_written s o owner field v) st
 
 -- `malloc` makes an object and stores its number
 abbrev pub MakesObject : Type 0
 MakesObject =
-    (w : Turn) (n slot owner : ℕ) → done w n (s.New slot owner) ≡ on (made (field_counts w.program) w.state owner) (λ r. goes w n r.1 (set_slot slot r.0 (top w)))
+    (w : Acting) (n slot owner : ℕ) → done w n (s.New slot owner) ≡ on (made (field_counts w.program) w.state owner) (λ r. goes w n r.1 (set_slot slot r.0 (top w)))
 
 -- `getchar` takes a byte and stores it
 abbrev pub GetsByte : Type 0
-GetsByte = (w : Turn) (n slot : ℕ) → done w n (s.Getc slot) ≡ goes w n (got w.state).1 (set_slot slot (got w.state).0 (top w))
+GetsByte = (w : Acting) (n slot : ℕ) → done w n (s.Getc slot) ≡ goes w n (got w.state).1 (set_slot slot (got w.state).0 (top w))
 
 -- `printf` puts out what it prints
 abbrev pub PutsText : Type 0
 PutsText =
-    (w : Turn) (n : ℕ) (text : List ℕ) (args : List LExpr) → done w n (s.Print text args) ≡ on (values_in w args) (λ vs. on (put w.state (printed text vs)) (λ next. goes w n next (top w)))
+    (w : Acting) (n : ℕ) (text : List ℕ) (args : List LExpr) → done w n (s.Print text args) ≡ on (values_in w args) (λ vs. on (put w.state (printed text vs)) (λ next. goes w n next (top w)))
 
+-- `free` frees an object and stores nothing
 abbrev pub FreesObject : Type 0
 FreesObject =
-    (w : Turn) (n : ℕ) (x : LExpr) → done w n (s.Free x) ≡ on (value_in w x) (λ o. on (freed w.state o) (λ next. goes w n next (top w)))
+    (w : Acting) (n : ℕ) (x : LExpr) → done w n (s.Free x) ≡ on (value_in w x) (λ o. on (freed w.state o) (λ next. goes w n next (top w)))
 
 -- a lock goes on where the mutex is taken, and else waits
 abbrev pub LocksMutex : Type 0
 LocksMutex =
-    (w : Turn) (n m : ℕ) → done w n (s.Lock m) ≡ on (locked w.state m w.thread) (λ r. if r.0 then goes w n r.1 (top w) else Blocked)
+    (w : Acting) (n m : ℕ) → done w n (s.Lock m) ≡ on (locked w.state m w.thread) (λ r. if r.0 then goes w n r.1 (top w) else Blocked)
 
+-- an unlock gives the mutex back and goes on
 abbrev pub UnlocksMutex : Type 0
-UnlocksMutex = (w : Turn) (n m : ℕ) → done w n (s.Unlock m) ≡ on (unlocked w.state m w.thread) (λ next. goes w n next (top w))
+UnlocksMutex = (w : Acting) (n m : ℕ) → done w n (s.Unlock m) ≡ on (unlocked w.state m w.thread) (λ next. goes w n next (top w))
 
+-- a state with these threads
 abbrev pub with_threads : List (Option (List Frame)) → State → State
 with_threads threads st = record st { threads = threads }
 

@@ -8,6 +8,7 @@ pub record Memory : Type 0 where
   pub fields : List ℕ
   pub state : State
 
+-- the number of fields of each struct of a program
 abbrev pub field_counts : Lifted → List ℕ
 field_counts p = map (λ s. length s.fields) p.structs
 

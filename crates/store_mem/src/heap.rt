@@ -5,7 +5,7 @@ ghost use Rattle.c_tree.specs.Step.{index, with_field};
 ghost use Rattle.c_tree.specs.Value as v;
 ghost use Rattle.store_mem.specs.Access as spec;
 
-use c_tree::{LStruct, Object, Row, Trap};
+use c_tree::{LStruct, Object, Row, Trap, narrowed};
 use std::alloc::{AllocError, Global};
 
 /// The number of fields of each struct. A struct of more than 4,294,967,295 fields counts as want
@@ -20,17 +20,9 @@ pub fn field_counts(alloc: Global, structs: &[LStruct]) -> Result<Row<u32>, Allo
     Ok(Row::from_vec(counts))
 }
 
-fn narrowed(n: usize) -> Result<u32, AllocError>
-    ensures { IfOk result (λ m. m ≡ n) }
-{
-    match u32::try_from(n) {
-        Ok(n) => Ok(n),
-        Err(_) => Err(AllocError),
-    }
-}
-
-/// The index of an object that is there and of the struct, or the trap of an access.
-fn index_of(objects: &[Option<Object>], number: i32, owner: u32) -> Result<usize, Trap>
+/// The place in the heap's list of an object that is there and of the struct, or the trap of an
+/// access to it.
+pub fn object_of(objects: &[Option<Object>], number: i32, owner: u32) -> Result<usize, Trap>
     ensures { MatchResult result
         (λ i. (i ≡ index number - 1) × (i < length objects.now)
         × IsOk (v.object_of objects.now number owner))
@@ -124,7 +116,7 @@ pub fn write(
         (with_field field value (slice_index_or objects.old i None))))
         (λ cause. (found ≡ Err cause) × (objects.new ≡ objects.old)) }
 {
-    let i = index_of(objects.as_slice(), number, owner)?;
+    let i = object_of(objects.as_slice(), number, owner)?;
     let object = objects.get_mut(i);
     put_field(object, field, value);
     Ok(())

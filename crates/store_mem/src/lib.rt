@@ -12,9 +12,8 @@ mod mutexes;
 mod print;
 mod refusal;
 mod store;
-#[cfg(test)]
-mod tests;
 
+pub use heap::object_of;
 pub use laws::{a_step_makes_these_accesses, threads_play_no_part};
 pub use print::printed;
 pub use refusal::StoreEnd;

@@ -14,6 +14,7 @@ pub fn holder(mutexes: &[Option<u32>], mutex: u32) -> Option<u32>
     }
 }
 
+/// Sets which thread holds a mutex; none frees it. Nothing changes where it isn't there.
 pub fn set_holder(mutexes: &mut Row<Option<u32>>, mutex: u32, holder: Option<u32>)
     ensures { mutexes.new ≡ slice_set mutexes.old mutex holder }
 {

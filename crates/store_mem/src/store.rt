@@ -25,7 +25,6 @@ const MAX_OUTPUT: usize = 4194304;
 ///
 /// An access takes the same time whatever the size of arrays and heap. Only `start`, `new_object`
 /// and `put_text` take memory.
-#[derive(Drop)]
 pub struct Store {
     fields: Row<u32>,
     globals: Row<Row<i32>>,
@@ -33,6 +32,19 @@ pub struct Store {
     mutexes: Row<Option<u32>>,
     input: Input,
     output: Text,
+}
+
+impl Drop for Store {
+    fn drop(self) {
+        let Store {
+            fields: _,
+            globals: _,
+            heap: _,
+            mutexes: _,
+            input: _,
+            output: _,
+        } = self;
+    }
 }
 
 impl Model for Store {

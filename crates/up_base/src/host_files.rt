@@ -3,6 +3,7 @@
 ghost use Rattle.std.specs.Prelude.{◌≤◌, None, IfOk, length};
 
 use crate::files::Files;
+use crate::reading::Reading;
 use crate::refusal::{PutEnd, ReadEnd};
 use std::alloc::Global;
 use std::fs;
@@ -12,15 +13,16 @@ use std::io::{ErrorKind, Read, Write};
 #[derive(Drop)]
 pub struct HostFiles<'a, R: std::rt::Files> {
     rt: &'a R,
-    read_faults: u64,
+    reading: Reading,
     write_faults: u64,
 }
 
 impl<'a, R: std::rt::Files> HostFiles<'a, R> {
+    /// The files of this runtime, of which none was read or written yet.
     pub fn new(rt: &'a R) -> HostFiles<'a, R> {
         HostFiles {
             rt,
-            read_faults: 0,
+            reading: Reading::none(),
             write_faults: 0,
         }
     }
@@ -91,10 +93,11 @@ fn create_whole<R: std::rt::Files>(rt: &R, name: &str, bytes: &[u8]) -> Result<(
 }
 
 impl<R: std::rt::Files> Files for HostFiles<'_, R> {
-    ghost shelf = { λ f. record { held = None; read_faults = f.read_faults; write_faults = f.write_faults } };
+    ghost shelf = { λ f. record
+        { held = None; reading = f.reading; write_faults = f.write_faults } };
 
     fn read_faults(&self) -> u64 {
-        self.read_faults
+        self.reading.faults
     }
 
     fn write_faults(&self) -> u64 {
@@ -103,12 +106,7 @@ impl<R: std::rt::Files> Files for HostFiles<'_, R> {
 
     fn read(&mut self, alloc: Global, name: &str, limit: u64) -> Result<Vec<u8>, ReadEnd> {
         let result = open_within(self.rt, alloc, name, limit);
-        match &result {
-            Err(ReadEnd::Failed | ReadEnd::Missing) => {
-                self.read_faults = self.read_faults.saturating_add(1);
-            }
-            _ => {}
-        }
+        self.reading.count(limit, &result);
         result
     }
 

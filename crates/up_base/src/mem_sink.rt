@@ -7,7 +7,7 @@ use crate::refusal::PutEnd;
 use crate::sink::Sink;
 
 /// A sink in memory. The calls in `failing`, counted from 0, fail, and so do those past its room.
-#[derive(Debug, Drop)]
+#[derive(Drop)]
 pub struct MemSink {
     failing: Vec<u64>,
     calls: u64,

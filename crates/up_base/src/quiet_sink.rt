@@ -7,7 +7,7 @@ use crate::sink::Sink;
 use std::alloc::Global;
 
 /// A sink in memory that never fails.
-#[derive(Debug, Drop)]
+#[derive(Drop)]
 pub struct QuietSink {
     bytes: Vec<u8>,
 }

@@ -1,7 +1,11 @@
 //! Programs that read their input.
 
-use crate::call::{Wanted, answers, plain};
-use std::test::Fail;
+use crate::tool::Upstare;
+use row_calls::{
+    Call, CallRow, Faults, Repeated, RowsDiffer, Shown, called, compare, differing_calls, judged,
+    text_of,
+};
+use std::alloc::{AllocError, Global};
 
 const FIRST: &str = r#"int main(void) { printf("%d\n", getchar()); return 0; }"#;
 
@@ -16,50 +20,79 @@ int main(void) {
 }
 "#;
 
+/// What each run comes to.
+#[rattlefmt::skip]
+const ROWS: &[CallRow<'static>] = &[
+    ("no input",
+     "run a.c",
+     &[("a.c", FIRST)], r"
+-1
+err: end exit 0 steps 4 target - update none
+status 0
+"),
+    ("an empty input",
+     "run a.c --input f",
+     &[("a.c", FIRST), ("f", "")], r"
+-1
+err: end exit 0 steps 4 target - update none
+status 0
+"),
+    ("one byte",
+     "run a.c --input f",
+     &[("a.c", FIRST), ("f", "A")], r"
+65
+err: end exit 0 steps 4 target - update none
+status 0
+"),
+    ("all bytes, and the end again",
+     "run --input f a.c --seed 1",
+     &[("a.c", SUM), ("f", "ab\n\u{ff}")], r"
+5 bytes, sum 591, then -1
+err: end exit 0 steps 33 target - update none
+status 0
+"),
+];
+
 #[test]
-fn a_program_reads_its_input_once(rt: HostRuntime) -> Result<(), Fail> {
-    let end = "end exit 0 steps 4 target - update none\n";
-    for (source, words, input, out, line) in [
-        (FIRST, "run a.c", "A", "-1\n", end),
-        (FIRST, "run a.c --input f", "", "-1\n", end),
-        (FIRST, "run a.c --input f", "A", "65\n", end),
+fn a_program_reads_its_input_once(rt: HostRuntime) -> Result<(), RowsDiffer> {
+    judged(differing_calls(rt.alloc(), &Upstare, ROWS))
+}
+
+/// As many bytes as an input may have.
+const MOST: Repeated<'static> = Repeated {
+    before: "",
+    piece: "x",
+    count: 1_048_576,
+    is_numbered: false,
+    behind: "",
+    after: "",
+};
+
+fn differing_limit(alloc: Global) -> Result<String, AllocError> {
+    let mut differing = String::new(alloc);
+    let most = text_of(alloc, &MOST)?;
+    let more = format!(in alloc; "{most}x")?;
+    for (name, input, wanted) in [
         (
-            SUM,
-            "run --input f a.c --seed 1",
-            "ab\n\u{ff}",
-            "5 bytes, sum 591, then -1\n",
-            "end exit 0 steps 33 target - update none\n",
+            "as long as it may be",
+            &most,
+            "120\nerr: end exit 0 steps 4 target - update none\nstatus 0\n",
         ),
+        ("one byte longer", &more, "err: too long f\nstatus 11\n"),
     ] {
-        let files = [("a.c", source.as_bytes()), ("f", input.as_bytes())];
-        let wanted = Wanted {
-            status: 0,
-            out,
-            line,
+        let files = [("a.c", FIRST), ("f", input.as_str())];
+        let call = Call {
+            words: "run a.c --input f",
+            files: &files,
+            faults: Faults::NONE,
         };
-        answers(&rt, rt.alloc(), &files, &plain(words), &wanted)?;
+        let got = called(alloc, &Upstare, &call, Shown::All)?;
+        compare(&mut differing, name, wanted, &got)?;
     }
-    Ok(())
+    Ok(differing)
 }
 
 #[test]
-fn an_input_that_is_too_long_is_told(rt: HostRuntime) -> Result<(), Fail> {
-    let long = "x".repeat(rt.alloc(), 1_048_577)?;
-    let files = [("a.c", FIRST.as_bytes()), ("f", long.as_bytes())];
-    let wanted = Wanted {
-        status: 11,
-        out: "",
-        line: "too long f\n",
-    };
-    let call = plain("run a.c --input f --schedule s");
-    answers(&rt, rt.alloc(), &files, &call, &wanted)?;
-    let most = long.get(..1_048_576).unwrap_or("");
-    let files = [("a.c", FIRST.as_bytes()), ("f", most.as_bytes())];
-    let wanted = Wanted {
-        status: 0,
-        out: "120\n",
-        line: "end exit 0 steps 4 target - update none\n",
-    };
-    let call = plain("run a.c --input f");
-    answers(&rt, rt.alloc(), &files, &call, &wanted)
+fn an_input_has_its_limit(rt: HostRuntime) -> Result<(), RowsDiffer> {
+    judged(differing_limit(rt.alloc()))
 }

@@ -1,188 +1,141 @@
-//! The command `patch` as a whole: its files in their order, what it writes, and faults.
+//! The command `patch` as a whole: its files in their order, and what it writes.
 
-use crate::call::{Call, Wanted, answers, held, made, plain};
+use crate::tool::Upstare;
+use row_calls::{
+    Call, CallRow, Faults, Repeated, RowsDiffer, Shown, called, compare, differing_calls, judged,
+    text_of,
+};
 use std::alloc::{AllocError, Global};
-use std::test::Fail;
 
 /// A loop that prints `old`, and one that prints `new`.
-pub const C1: &str =
-    "int n; int main(void) { while (n < 4) { n = n + 1; printf(\"old %d\\n\", n); } return 0; }\n";
+pub const C1: &str = r#"
+int n; int main(void) { while (n < 4) { n = n + 1; printf("old %d\n", n); } return 0; }
+"#;
 
-pub const C2: &str =
-    "int n; int main(void) { while (n < 4) { n = n + 1; printf(\"new %d\\n\", n); } return 0; }\n";
+pub const C2: &str = r#"
+int n; int main(void) { while (n < 4) { n = n + 1; printf("new %d\n", n); } return 0; }
+"#;
 
-const PATCH: &str = "patch c1 c2 m -o p";
-
-#[test]
-fn the_file_holds_both_sources_and_the_canonical_mapping(rt: HostRuntime) -> Result<(), Fail> {
-    let alloc = rt.alloc();
-    for (mapping, canonical, bytes) in [
-        (
-            "point main loop 1 -> loop 1;\n",
-            "point main loop 1 -> loop 1;\n",
-            246,
-        ),
-        ("check -(-n) >= 0;", "check - -n >= 0;\n", 234),
-    ] {
-        let files = [
-            ("c1", C1.as_bytes()),
-            ("c2", C2.as_bytes()),
-            ("m", mapping.as_bytes()),
-        ];
-        let mut outcome = made(alloc, &files, &plain(PATCH))?;
-        let len = canonical.len();
-        let file = format!(in alloc;
-            "upstare-patch 1\nold 88\n{C1}new 88\n{C2}map {len}\n{canonical}end\n"
-        )?;
-        let out = format!(in alloc; "ok bytes {bytes}\n")?;
-        assert_eq!(rt; held(alloc, &mut outcome, "p").as_bytes(), file.as_bytes());
-        assert_eq!(rt; outcome.out.bytes(), out.as_bytes());
-        assert_eq!(rt; outcome.err.bytes(), b"".as_slice());
-        assert_eq!(rt; outcome.status, 0);
-    }
-    Ok(())
-}
-
-/// Each row: the three texts, the line and the status.
-const ORDER: [(&str, &str, &str, &str, u8); 9] = [
-    ("", "", "", "source c1 at 0: no main\n", 2),
-    (
-        "int main(void) { char c; }",
-        "",
-        "",
-        "source c1 at 17: left out char\n",
-        2,
-    ),
-    (C1, "", "", "source c2 at 0: no main\n", 2),
-    (
-        C1,
-        "int main(void) { return x; }",
-        "check",
-        "source c2 at 24: unknown x\n",
-        2,
-    ),
-    (C1, C2, "check", "map m at 5: unexpected\n", 3),
-    (
-        C1,
-        C2,
-        "point main loop -> loop 1;",
-        "map m at 16: unexpected\n",
-        3,
-    ),
-    (
-        C1,
-        C2,
-        "point main loop 2 -> loop 1;",
-        "map m entry 1: unknown point\n",
-        3,
-    ),
-    (
-        C1,
-        C2,
-        "check 1; check x; check y",
-        "map m at 25: unexpected\n",
-        3,
-    ),
-    (
-        C1,
-        C2,
-        "check 1; check x; check y;",
-        "map m entry 2: bad expression\n",
-        3,
-    ),
+/// What each call comes to, and the patch.
+#[rattlefmt::skip]
+const ROWS: &[CallRow<'static>] = &[
+    ("a mapping that is its canonical text",
+     "patch c1 c2 m -o p",
+     &[("c1", C1), ("c2", C2), ("m", "point main loop 1 -> loop 1;\n")], r#"
+ok bytes 246
+status 0
+file p
+upstare-patch 1
+old 88
+int n; int main(void) { while (n < 4) { n = n + 1; printf("old %d\n", n); } return 0; }
+new 88
+int n; int main(void) { while (n < 4) { n = n + 1; printf("new %d\n", n); } return 0; }
+map 29
+point main loop 1 -> loop 1;
+end
+"#),
+    ("another mapping",
+     "patch c1 c2 m -o p",
+     &[("c1", C1), ("c2", C2), ("m", "check -(-n) >= 0;")], r#"
+ok bytes 234
+status 0
+file p
+upstare-patch 1
+old 88
+int n; int main(void) { while (n < 4) { n = n + 1; printf("old %d\n", n); } return 0; }
+new 88
+int n; int main(void) { while (n < 4) { n = n + 1; printf("new %d\n", n); } return 0; }
+map 17
+check - -n >= 0;
+end
+"#),
+    ("no text at all",
+     "patch c1 c2 m -o p",
+     &[("c1", ""), ("c2", ""), ("m", "")],
+     "err: source c1 at 0: no main\nstatus 2\n"),
+    ("the old source is refused",
+     "patch c1 c2 m -o p",
+     &[("c1", "int main(void) { char c; }"), ("c2", ""), ("m", "")],
+     "err: source c1 at 17: left out char\nstatus 2\n"),
+    ("the new source is refused",
+     "patch c1 c2 m -o p",
+     &[("c1", C1), ("c2", ""), ("m", "")],
+     "err: source c2 at 0: no main\nstatus 2\n"),
+    ("the new source before the mapping",
+     "patch c1 c2 m -o p",
+     &[("c1", C1), ("c2", "int main(void) { return x; }"), ("m", "check")],
+     "err: source c2 at 24: unknown x\nstatus 2\n"),
+    ("a mapping that ends too soon",
+     "patch c1 c2 m -o p",
+     &[("c1", C1), ("c2", C2), ("m", "check")],
+     "err: map m at 5: unexpected\nstatus 3\n"),
+    ("a mapping with a fault",
+     "patch c1 c2 m -o p",
+     &[("c1", C1), ("c2", C2), ("m", "point main loop -> loop 1;")],
+     "err: map m at 16: unexpected\nstatus 3\n"),
+    ("an unsound mapping",
+     "patch c1 c2 m -o p",
+     &[("c1", C1), ("c2", C2), ("m", "point main loop 2 -> loop 1;")],
+     "err: map m entry 1: unknown point\nstatus 3\n"),
+    ("a fault before an unsound entry",
+     "patch c1 c2 m -o p",
+     &[("c1", C1), ("c2", C2), ("m", "check 1; check x; check y")],
+     "err: map m at 25: unexpected\nstatus 3\n"),
+    ("the first unsound entry",
+     "patch c1 c2 m -o p",
+     &[("c1", C1), ("c2", C2), ("m", "check 1; check x; check y;")],
+     "err: map m entry 2: bad expression\nstatus 3\n"),
+    ("no old source",
+     "patch x c2 y -o p",
+     &[("c1", C1), ("c2", C2), ("bad", "?")],
+     "err: cannot read x\nstatus 4\n"),
+    ("no new source",
+     "patch c1 x y -o p",
+     &[("c1", C1), ("c2", C2), ("bad", "?")],
+     "err: cannot read x\nstatus 4\n"),
+    ("no mapping",
+     "patch c1 c2 x -o p",
+     &[("c1", C1), ("c2", C2), ("bad", "?")],
+     "err: cannot read x\nstatus 4\n"),
+    ("no mapping, and an old source that is none",
+     "patch bad c2 x -o p",
+     &[("c1", C1), ("c2", C2), ("bad", "?")],
+     "err: cannot read x\nstatus 4\n"),
 ];
 
 #[test]
-fn the_first_refusal_ends_the_call(rt: HostRuntime) -> Result<(), Fail> {
-    for (old, new, mapping, line, status) in ORDER {
-        let files = [
-            ("c1", old.as_bytes()),
-            ("c2", new.as_bytes()),
-            ("m", mapping.as_bytes()),
-        ];
-        let wanted = Wanted {
-            status,
-            out: "",
-            line,
-        };
-        answers(&rt, rt.alloc(), &files, &plain(PATCH), &wanted)?;
-    }
-    Ok(())
+fn the_patch_holds_both_sources_and_the_canonical_mapping(
+    rt: HostRuntime,
+) -> Result<(), RowsDiffer> {
+    judged(differing_calls(rt.alloc(), &Upstare, ROWS))
 }
 
-#[test]
-fn files_are_read_in_their_order(rt: HostRuntime) -> Result<(), Fail> {
-    for (words, line) in [
-        ("patch x c2 y -o p", "cannot read x\n"),
-        ("patch c1 x y -o p", "cannot read x\n"),
-        ("patch c1 c2 x -o p", "cannot read x\n"),
-        ("patch bad c2 x -o p", "cannot read x\n"),
-    ] {
-        let files = [("c1", C1.as_bytes()), ("c2", C2.as_bytes()), ("bad", b"?")];
-        let wanted = Wanted {
-            status: 4,
-            out: "",
-            line,
-        };
-        answers(&rt, rt.alloc(), &files, &plain(words), &wanted)?;
-    }
-    Ok(())
-}
+/// One byte more than a mapping may have: entries, and a blank behind them.
+const LONG: Repeated<'static> = Repeated {
+    before: "",
+    piece: "check n;",
+    count: 131072,
+    is_numbered: false,
+    behind: "",
+    after: " ",
+};
 
-#[test]
-fn faults_of_patch_are_told(rt: HostRuntime) -> Result<(), Fail> {
-    let alloc = rt.alloc();
-    let files = [
-        ("c1", C1.as_bytes()),
-        ("c2", C2.as_bytes()),
-        ("m", b"".as_slice()),
-    ];
-    for (failing, room, status, out, line) in [
-        ([1].as_slice(), None, 4, "", "cannot read c2\n"),
-        ([3].as_slice(), None, 5, "", "cannot write p\n"),
-        ([].as_slice(), Some(4), 5, "ok b", "cannot write output\n"),
-    ] {
-        let call = Call {
-            words: PATCH,
-            failing,
-            room,
-            err: &[],
-        };
-        let wanted = Wanted { status, out, line };
-        answers(&rt, alloc, &files, &call, &wanted)?;
-    }
-    Ok(())
-}
-
-/// A text of so many bytes: as many pieces as fit, and blanks behind them.
-fn filled(alloc: Global, piece: &str, len: usize) -> Result<String, AllocError> {
-    let mut text = String::new(alloc);
-    for _ in 0..len {
-        if text.len().saturating_add(piece.len()) <= len {
-            text.push_str(piece)?;
-        }
-    }
-    for _ in 0..len {
-        if text.len() < len {
-            text.push(' ')?;
-        }
-    }
-    Ok(text)
-}
-
-#[test]
-fn a_mapping_above_its_limit_is_too_long(rt: HostRuntime) -> Result<(), Fail> {
-    let alloc = rt.alloc();
-    let mapping = filled(alloc, "check n;", 1048577)?;
-    let files = [
-        ("c1", C1.as_bytes()),
-        ("c2", b"?".as_slice()),
-        ("m", mapping.as_bytes()),
-    ];
-    let wanted = Wanted {
-        status: 3,
-        out: "",
-        line: "map m at 1048576: too long\n",
+fn differing_limit(alloc: Global) -> Result<String, AllocError> {
+    let mut differing = String::new(alloc);
+    let mapping = text_of(alloc, &LONG)?;
+    let files = [("c1", C1), ("c2", "?"), ("m", mapping.as_str())];
+    let call = Call {
+        words: "patch c1 c2 m -o p",
+        files: &files,
+        faults: Faults::NONE,
     };
-    answers(&rt, alloc, &files, &plain(PATCH), &wanted)
+    let got = called(alloc, &Upstare, &call, Shown::All)?;
+    let wanted = "err: map m at 1048576: too long\nstatus 3\n";
+    compare(&mut differing, "one byte more", wanted, &got)?;
+    Ok(differing)
+}
+
+#[test]
+fn a_mapping_has_its_limit(rt: HostRuntime) -> Result<(), RowsDiffer> {
+    judged(differing_limit(rt.alloc()))
 }

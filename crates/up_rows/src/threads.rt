@@ -1,200 +1,120 @@
 //! Programs of several threads, and what they come to under a schedule.
 
-use crate::call::{Wanted, answers, plain};
-use std::alloc::Global;
-use std::process::Abort;
-use std::test::Fail;
+mod sources;
 
-/// The main thread prints `m` and the one that it starts prints `w`.
-pub const PAIR: &str = r#"
-void *w(void *a) { printf("w\n"); return NULL; }
-int main(void) {
-    pthread_t t;
-    pthread_create(&t, NULL, w, NULL);
-    printf("m\n");
-    pthread_join(t, NULL);
-    return 0;
-}
-"#;
+use crate::threads::sources::{
+    CROSSED, CROWD, LEFT_LOCKED, LOCKED, MANY, RELOCK, SELF_JOIN, UNLOCK,
+};
+use crate::tool::Upstare;
+use row_calls::{CallRow, RowsDiffer, differing_calls, judged};
+pub use sources::{FOREVER, PAIR};
 
-/// Two threads that lock two mutexes crosswise.
-const CROSSED: &str = r"
-pthread_mutex_t a;
-pthread_mutex_t b;
-void *w(void *x) {
-    pthread_mutex_lock(&b); pthread_mutex_lock(&a);
-    pthread_mutex_unlock(&a); pthread_mutex_unlock(&b);
-    return NULL;
-}
-int main(void) {
-    pthread_t t;
-    pthread_create(&t, NULL, w, NULL);
-    pthread_mutex_lock(&a); pthread_mutex_lock(&b);
-    pthread_mutex_unlock(&b); pthread_mutex_unlock(&a);
-    pthread_join(t, NULL);
-    return 0;
-}
-";
-
-/// Two threads that never end.
-pub const FOREVER: &str = r"
-int n;
-void *w(void *a) { while (1) { n = n + 1; } return NULL; }
-int main(void) {
-    pthread_t t;
-    pthread_create(&t, NULL, w, NULL);
-    while (1) { n = n - 1; }
-    return 0;
-}
-";
-
-/// A schedule of the crossed threads: each has its first mutex.
-const LOCKED: &str = "0 step 0\n0 step 0\n0 step 1\n0 step 1\n0 step 0\n";
-
-/// Makes a run of a source with a schedule `s` beside it: its output, its line and its status.
-fn runs(
-    rt: &impl Abort,
-    alloc: Global,
-    files: (&str, &str),
-    words: &str,
-    wanted: (&str, &str, u8),
-) -> Result<(), Fail> {
-    let (source, schedule) = files;
-    let (out, line, status) = wanted;
-    let files = [("a.c", source.as_bytes()), ("s", schedule.as_bytes())];
-    let line = format!(in alloc; "{line}\n")?;
-    let wanted = Wanted {
-        status,
-        out,
-        line: &line,
-    };
-    answers(rt, alloc, &files, &plain(words), &wanted)
-}
-
-#[test]
-fn threads_take_turns_or_are_drawn(rt: HostRuntime) -> Result<(), Fail> {
-    let end = "end exit 0 steps 8 target - update none";
-    for (words, out) in [
-        ("run a.c", "m\nw\n"),
-        ("run a.c --seed 1", "m\nw\n"),
-        ("run a.c --seed 6", "w\nm\n"),
-        ("run --steps 8 --seed=6 a.c", "w\nm\n"),
-    ] {
-        runs(&rt, rt.alloc(), (PAIR, ""), words, (out, end, 0))?;
-    }
-    Ok(())
-}
-
-#[test]
-fn a_deadlock_is_an_answer(rt: HostRuntime) -> Result<(), Fail> {
-    let wanted = ("", "end deadlock steps 5 target - update none", 7);
-    let words = "run a.c --schedule s";
-    runs(&rt, rt.alloc(), (CROSSED, LOCKED), words, wanted)
-}
-
-#[test]
-fn a_listing_that_cannot_be_followed_is_refused(rt: HostRuntime) -> Result<(), Fail> {
-    for (schedule, line) in [
-        (
-            "0 step 1\n0 step 0\n0 step 0\n0 step 1\n0 step 0\n",
-            "schedule s refused at 1",
-        ),
-        (
-            "0 step 0\n0 step 0\n0 step 1\n0 step 1\n",
-            "schedule s refused at 5",
-        ),
-        (
-            "0 step 0\n0 step 0\n0 step 1\n0 step 1\n0 step 0\n0 step 0\n",
-            "schedule s refused at 6",
-        ),
-        (
-            "0 step 0\n0 step 0\n0 step 1\n0 step 1\n0 step 0",
-            "schedule s refused at 5",
-        ),
-        ("0 step 0\n0 request\n", "schedule s refused at 2"),
-        ("0 step 0\n0 refuse 8\n", "schedule s refused at 2"),
-        ("00 step 0\n", "schedule s refused at 1"),
-        ("", "schedule s refused at 1"),
-    ] {
-        let words = "run a.c --schedule s";
-        runs(&rt, rt.alloc(), (CROSSED, schedule), words, ("", line, 10))?;
-    }
-    Ok(())
-}
+/// What each run comes to.
+#[rattlefmt::skip]
+const ROWS: &[CallRow<'static>] = &[
+    ("in turns",
+     "run a.c",
+     &[("a.c", PAIR)], r"
+m
+w
+err: end exit 0 steps 8 target - update none
+status 0
+"),
+    ("drawn by seed 1",
+     "run a.c --seed 1",
+     &[("a.c", PAIR)], r"
+m
+w
+err: end exit 0 steps 8 target - update none
+status 0
+"),
+    ("drawn by seed 6",
+     "run a.c --seed 6",
+     &[("a.c", PAIR)], r"
+w
+m
+err: end exit 0 steps 8 target - update none
+status 0
+"),
+    ("drawn by seed 6, with as many steps as it takes",
+     "run --steps 8 --seed=6 a.c",
+     &[("a.c", PAIR)], r"
+w
+m
+err: end exit 0 steps 8 target - update none
+status 0
+"),
+    ("a deadlock is an answer",
+     "run a.c --schedule s",
+     &[("a.c", CROSSED), ("s", LOCKED)],
+     "err: end deadlock steps 5 target - update none\nstatus 7\n"),
+    ("a thread that is not started yet",
+     "run a.c --schedule s",
+     &[("a.c", CROSSED), ("s", "0 step 1\n0 step 0\n0 step 0\n0 step 1\n0 step 0\n")],
+     "err: schedule s refused at 1\nstatus 10\n"),
+    ("it ends before the program",
+     "run a.c --schedule s",
+     &[("a.c", CROSSED), ("s", "0 step 0\n0 step 0\n0 step 1\n0 step 1\n")],
+     "err: schedule s refused at 5\nstatus 10\n"),
+    ("a step of a program that stands still",
+     "run a.c --schedule s",
+     &[("a.c", CROSSED), ("s", "0 step 0\n0 step 0\n0 step 1\n0 step 1\n0 step 0\n0 step 0\n")],
+     "err: schedule s refused at 6\nstatus 10\n"),
+    ("a line without its newline",
+     "run a.c --schedule s",
+     &[("a.c", CROSSED), ("s", "0 step 0\n0 step 0\n0 step 1\n0 step 1\n0 step 0")],
+     "err: schedule s refused at 5\nstatus 10\n"),
+    ("a request of no update",
+     "run a.c --schedule s",
+     &[("a.c", CROSSED), ("s", "0 step 0\n0 request\n")],
+     "err: schedule s refused at 2\nstatus 10\n"),
+    ("a refusal of no update",
+     "run a.c --schedule s",
+     &[("a.c", CROSSED), ("s", "0 step 0\n0 refuse 8\n")],
+     "err: schedule s refused at 2\nstatus 10\n"),
+    ("a number with a 0 before it",
+     "run a.c --schedule s",
+     &[("a.c", CROSSED), ("s", "00 step 0\n")],
+     "err: schedule s refused at 1\nstatus 10\n"),
+    ("nothing",
+     "run a.c --schedule s",
+     &[("a.c", CROSSED), ("s", "")],
+     "err: schedule s refused at 1\nstatus 10\n"),
+    ("7 steps",
+     "run a.c --steps 7",
+     &[("a.c", "int main(void) { while (1) { } return 0; }")],
+     "err: end limit steps 7 target - update none\nstatus 8\n"),
+    ("1 step",
+     "run a.c --steps 1 --seed 3",
+     &[("a.c", "int main(void) { while (1) { } return 0; }")],
+     "err: end limit steps 1 target - update none\nstatus 8\n"),
+    ("locked twice",
+     "run a.c",
+     &[("a.c", RELOCK)],
+     "err: end trap relock thread 0 steps 3 target - update none\nstatus 6\n"),
+    ("unlocked without a lock",
+     "run a.c",
+     &[("a.c", UNLOCK)],
+     "err: end trap unlock thread 0 steps 2 target - update none\nstatus 6\n"),
+    ("a join of itself",
+     "run a.c",
+     &[("a.c", SELF_JOIN)],
+     "err: end trap join thread 0 steps 2 target - update none\nstatus 6\n"),
+    ("one thread more than may live",
+     "run a.c",
+     &[("a.c", CROWD)],
+     "err: end trap threads thread 0 steps 6240 target - update none\nstatus 6\n"),
+    ("one thread more than may be started",
+     "run a.c",
+     &[("a.c", MANY)],
+     "err: end trap threads thread 0 steps 5997 target - update none\nstatus 6\n"),
+    ("a mutex whose owner has ended",
+     "run a.c",
+     &[("a.c", LEFT_LOCKED)],
+     "err: end deadlock steps 6 target - update none\nstatus 7\n"),
+];
 
 #[test]
-fn a_run_ends_at_its_limit(rt: HostRuntime) -> Result<(), Fail> {
-    let source = "int main(void) { while (1) { } return 0; }";
-    for (words, line) in [
-        (
-            "run a.c --steps 7",
-            "end limit steps 7 target - update none",
-        ),
-        (
-            "run a.c --steps 1 --seed 3",
-            "end limit steps 1 target - update none",
-        ),
-    ] {
-        runs(&rt, rt.alloc(), (source, ""), words, ("", line, 8))?;
-    }
-    Ok(())
-}
-
-const RELOCK: &str = r"
-pthread_mutex_t a;
-int main(void) { pthread_mutex_lock(&a); pthread_mutex_lock(&a); return 0; }
-";
-
-const UNLOCK: &str = r"
-pthread_mutex_t a;
-int main(void) { pthread_mutex_unlock(&a); return 0; }
-";
-
-const SELF_JOIN: &str = "int main(void) { pthread_t t; pthread_join(t, NULL); return 0; }";
-
-const CROWD: &str = r"
-void *w(void *a) { while (1) { } return NULL; }
-int main(void) {
-    pthread_t t;
-    while (1) { pthread_create(&t, NULL, w, NULL); }
-    return 0;
-}
-";
-
-const MANY: &str = r"
-void *w(void *a) { return NULL; }
-int main(void) {
-    pthread_t t;
-    while (1) { pthread_create(&t, NULL, w, NULL); pthread_join(t, NULL); }
-    return 0;
-}
-";
-
-const LEFT_LOCKED: &str = r"
-pthread_mutex_t a;
-void *w(void *x) { pthread_mutex_lock(&a); return NULL; }
-int main(void) {
-    pthread_t t;
-    pthread_create(&t, NULL, w, NULL);
-    pthread_join(t, NULL);
-    pthread_mutex_lock(&a);
-    return 0;
-}
-";
-
-#[test]
-fn threads_and_mutexes_trap(rt: HostRuntime) -> Result<(), Fail> {
-    for (source, line, status) in [
-        (RELOCK, "end trap relock thread 0 steps 3", 6),
-        (UNLOCK, "end trap unlock thread 0 steps 2", 6),
-        (SELF_JOIN, "end trap join thread 0 steps 2", 6),
-        (CROWD, "end trap threads thread 0 steps 6240", 6),
-        (MANY, "end trap threads thread 0 steps 5997", 6),
-        (LEFT_LOCKED, "end deadlock steps 6", 7),
-    ] {
-        let line = format!(in rt.alloc(); "{line} target - update none")?;
-        let wanted = ("", line.as_str(), status);
-        runs(&rt, rt.alloc(), (source, ""), "run a.c", wanted)?;
-    }
-    Ok(())
+fn threads_take_turns_or_follow_a_schedule(rt: HostRuntime) -> Result<(), RowsDiffer> {
+    judged(differing_calls(rt.alloc(), &Upstare, ROWS))
 }

@@ -3,7 +3,8 @@
 //! A new row belongs in the file of its theme: `moments` has when an update comes, `stacks` what
 //! becomes of frames, `threads` of threads and mutexes, `globals` and `objects` of data, `reasons`
 //! why an update is refused, `schedules` which listings can be followed, `files` the file of the
-//! patch and its fellows, `queue` a program of some size.
+//! patch and its fellows, `queue` a program of some size. The programs of a theme stand in its
+//! `sources`.
 #![tactic(auto)]
 
 #[cfg(test)]
@@ -25,4 +26,4 @@ mod stacks;
 #[cfg(test)]
 mod threads;
 #[cfg(test)]
-mod update;
+mod tool;

@@ -1,199 +1,149 @@
 //! A queue of jobs that workers take while the program is updated.
 
-use crate::update::{Row, updates};
-use row_calls::{made, plain};
-use std::alloc::{AllocError, Global};
-use std::test::Fail;
+mod sources;
 
-const QUEUE: &str = r#"#include <stdio.h>
-#include <stdlib.h>
-#include <pthread.h>
-#define JOBS 20
-#define WORKERS 3
-struct job { int id; int cost; struct job *next; };
-struct job *queue; /* newest first */
-int done;
-int total;
-pthread_t pool[WORKERS];
-pthread_mutex_t queue_lock = PTHREAD_MUTEX_INITIALIZER;
-pthread_mutex_t total_lock = PTHREAD_MUTEX_INITIALIZER;
+use crate::queue::sources::{NEW_QUEUE, QUEUE, WEIGHTS};
+use crate::tool::Upstare;
+use row_calls::{Programs, RowsDiffer, UpdateRow, differing_updates, judged};
 
-void push(int id, int cost) {
-    struct job *j = malloc(sizeof(struct job));
-    j->id = id;
-    j->cost = cost;
-    pthread_mutex_lock(&queue_lock);
-    j->next = queue;
-    queue = j;
-    pthread_mutex_unlock(&queue_lock);
-}
-struct job *pop(void) {
-    struct job *j;
-    pthread_mutex_lock(&queue_lock);
-    j = queue;
-    if (j != NULL) queue = j->next;
-    pthread_mutex_unlock(&queue_lock);
-    return j;
-}
-int work(struct job *j) {
-    int sum = 0;
-    for (int i = 0; i < j->cost; i++) sum += j->id;
-    return sum;
-}
-void *worker(void *arg) {
-    struct job *j = pop();
-    while (j != NULL) {
-        int r = work(j);
-        pthread_mutex_lock(&total_lock);
-        total += r;
-        done++;
-        pthread_mutex_unlock(&total_lock);
-        free(j);
-        j = pop();
-    }
-    return NULL;
-}
-int main(void) {
-    for (int i = 1; i <= JOBS; i++) push(i, 10);
-    for (int i = 0; i < WORKERS; i++) pthread_create(&pool[i], NULL, worker, NULL);
-    for (int i = 0; i < WORKERS; i++) pthread_join(pool[i], NULL);
-    printf("jobs %d total %d\n", done, total);
-    return 0;
-}
-"#;
+const PROGRAMS: Programs<'static> = Programs {
+    old: QUEUE,
+    new: NEW_QUEUE,
+    map: WEIGHTS,
+};
 
-/// Each job gets a weight that starts from its id.
-const WEIGHTS: &str = "\
-field job.weight = id;
-point push entry -> entry;
-point push block 1 -> block 1;
-point work entry -> entry;
-point work loop 1 -> loop 1;
-point main entry -> entry;
-point main loop 1 -> loop 1;
-point main loop 2 -> loop 2;
-point main loop 3 -> loop 3;
-point main call 1 -> call 1;
-point main block 1 -> block 1;
-";
-
-/// The new program: the sum is that of the weights.
-fn new_queue(alloc: Global) -> Result<String, AllocError> {
-    QUEUE
-        .replace(alloc, "int cost; struct", "int cost; int weight; struct")?
-        .replace(
-            alloc,
-            "j->cost = cost;",
-            "j->cost = cost;\n    j->weight = id;",
-        )?
-        .replace(alloc, "sum += j->id", "sum += j->weight")?
-        .replace(alloc, "jobs %d total", "v2 jobs %d total")
-}
-
-#[test]
-fn the_queue_runs_without_an_update(rt: HostRuntime) -> Result<(), Fail> {
-    let alloc = rt.alloc();
-    let files = [("a.c", QUEUE.as_bytes())];
-    for (words, out) in [
-        (
-            "check a.c",
-            "ok functions 5 structs 1 globals 4 mutexes 2\n",
-        ),
-        ("run a.c", "jobs 20 total 2100\n"),
-    ] {
-        let outcome = made(alloc, &files, &plain(words))?;
-        assert_eq!(&rt; outcome.out.bytes(), out.as_bytes());
-        assert_eq!(&rt; outcome.status, 0);
-    }
-    Ok(())
-}
-
-/// Each row: the moment, the plan, the Steps, and the events from the Request on.
-const MOMENTS: [(usize, &str, &str, &str); 10] = [
-    (
-        0,
-        "",
-        "exit 0 steps 1563",
-        "request, park 0, update, resume 0, step 0",
-    ),
-    (
-        7,
-        "",
-        "exit 0 steps 1562",
-        "request, step 0, park 0, update, resume 0, step 0",
-    ),
-    (
-        150,
-        "",
-        "exit 0 steps 1551",
-        "request, step 0, park 0, update, resume 0, step 0",
-    ),
-    (
-        400,
-        "",
-        "exit 0 steps 1543",
-        "request, park 0, park 1, step 2, park 2, step 3, park 3, update, resume 0, resume 1",
-    ),
-    (
-        1000,
-        "",
-        "exit 0 steps 1543",
-        "request, park 0, park 1, park 3, step 2, step 2, step 2, step 2, step 2, park 2, update",
-    ),
-    (
-        1500,
-        "",
-        "exit 0 steps 1543",
-        "request, park 0, step 2, step 1, step 2, park 2, step 1, step 1, park 1, update",
-    ),
-    (
-        400,
-        "--seed 1",
-        "exit 0 steps 1543",
-        "request, park 0, park 2, step 1, step 1, park 1, step 3, step 3, step 3, park 3",
-    ),
-    (
-        777,
-        "--seed 2026",
-        "exit 0 steps 1543",
-        "request, park 0, park 1, step 2, park 2, step 3, step 3, park 3, update, resume 0",
-    ),
-    (
-        1200,
-        "--seed 18446744073709551615",
-        "exit 0 steps 1543",
-        "request, park 0, park 2, step 1, step 1, step 3, step 3, park 3, step 1, step 1",
-    ),
-    (
-        1530,
-        "--seed 3",
-        "exit 0 steps 1543",
-        "request, step 0, park 0, update, resume 0, step 0",
-    ),
+/// The sum is that of the old program whenever the update comes.
+#[rattlefmt::skip]
+const ROWS: &[UpdateRow<'static>] = &[
+    UpdateRow {
+        name: "--at 0",
+        programs: PROGRAMS,
+        words: "--at 0",
+        plan: "",
+        wanted: r"
+v2 jobs 20 total 2100
+err: end exit 0 steps 1563 target - update done
+status 0
+",
+        events: "0 steps, request, park 0, update, resume 0, step 0",
+    },
+    UpdateRow {
+        name: "--at 7",
+        programs: PROGRAMS,
+        words: "--at 7",
+        plan: "",
+        wanted: r"
+v2 jobs 20 total 2100
+err: end exit 0 steps 1562 target - update done
+status 0
+",
+        events: "7 steps, request, step 0, park 0, update, resume 0, step 0",
+    },
+    UpdateRow {
+        name: "--at 150",
+        programs: PROGRAMS,
+        words: "--at 150",
+        plan: "",
+        wanted: r"
+v2 jobs 20 total 2100
+err: end exit 0 steps 1551 target - update done
+status 0
+",
+        events: "150 steps, request, step 0, park 0, update, resume 0, step 0",
+    },
+    UpdateRow {
+        name: "--at 400",
+        programs: PROGRAMS,
+        words: "--at 400",
+        plan: "",
+        wanted: r"
+v2 jobs 20 total 2100
+err: end exit 0 steps 1543 target - update done
+status 0
+",
+        events: "400 steps, request, park 0, park 1, step 2, park 2, step 3, park \
+            3, update, resume 0, resume 1",
+    },
+    UpdateRow {
+        name: "--at 1000",
+        programs: PROGRAMS,
+        words: "--at 1000",
+        plan: "",
+        wanted: r"
+v2 jobs 20 total 2100
+err: end exit 0 steps 1543 target - update done
+status 0
+",
+        events: "1000 steps, request, park 0, park 1, park 3, step 2, step 2, step \
+            2, step 2, step 2, park 2, update",
+    },
+    UpdateRow {
+        name: "--at 1500",
+        programs: PROGRAMS,
+        words: "--at 1500",
+        plan: "",
+        wanted: r"
+v2 jobs 20 total 2100
+err: end exit 0 steps 1543 target - update done
+status 0
+",
+        events: "1500 steps, request, park 0, step 2, step 1, step 2, park 2, step \
+            1, step 1, park 1, update",
+    },
+    UpdateRow {
+        name: "--at 400 --seed 1",
+        programs: PROGRAMS,
+        words: "--at 400",
+        plan: "--seed 1",
+        wanted: r"
+v2 jobs 20 total 2100
+err: end exit 0 steps 1543 target - update done
+status 0
+",
+        events: "400 steps, request, park 0, park 2, step 1, step 1, park 1, step \
+            3, step 3, step 3, park 3",
+    },
+    UpdateRow {
+        name: "--at 777 --seed 2026",
+        programs: PROGRAMS,
+        words: "--at 777",
+        plan: "--seed 2026",
+        wanted: r"
+v2 jobs 20 total 2100
+err: end exit 0 steps 1543 target - update done
+status 0
+",
+        events: "777 steps, request, park 0, park 1, step 2, park 2, step 3, step \
+            3, park 3, update, resume 0",
+    },
+    UpdateRow {
+        name: "--at 1200 --seed 18446744073709551615",
+        programs: PROGRAMS,
+        words: "--at 1200",
+        plan: "--seed 18446744073709551615",
+        wanted: r"
+v2 jobs 20 total 2100
+err: end exit 0 steps 1543 target - update done
+status 0
+",
+        events: "1200 steps, request, park 0, park 2, step 1, step 1, step 3, step \
+            3, park 3, step 1, step 1",
+    },
+    UpdateRow {
+        name: "--at 1530 --seed 3",
+        programs: PROGRAMS,
+        words: "--at 1530",
+        plan: "--seed 3",
+        wanted: r"
+v2 jobs 20 total 2100
+err: end exit 0 steps 1543 target - update done
+status 0
+",
+        events: "1530 steps, request, step 0, park 0, update, resume 0, step 0",
+    },
 ];
 
 #[test]
-fn the_sum_is_that_of_the_old_program_whenever_the_update_comes(
-    rt: HostRuntime,
-) -> Result<(), Fail> {
-    let alloc = rt.alloc();
-    let new = new_queue(alloc)?;
-    for (at, plan, end, events) in MOMENTS {
-        let name = format!(in alloc; "{at} {plan}")?;
-        let row = Row {
-            name: &name,
-            old: QUEUE,
-            new: &new,
-            map: WEIGHTS,
-            at,
-            options: "",
-            plan,
-            out: "v2 jobs 20 total 2100\n",
-            end,
-            update: "done",
-            events,
-        };
-        updates(&rt, alloc, &row)?;
-    }
-    Ok(())
+fn the_queue_does_all_jobs(rt: HostRuntime) -> Result<(), RowsDiffer> {
+    judged(differing_updates(rt.alloc(), &Upstare, ROWS))
 }

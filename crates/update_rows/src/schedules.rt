@@ -1,171 +1,180 @@
 //! Listings of updates: those that can be followed, and at which event another one is refused.
 
-use crate::moments::{C1, C2, M1};
+use crate::moments::{C1, C2, LOOPS};
 use crate::threads::{BLOCKED, BLOCKED_NEW, LOOP};
-use crate::update::{patch_of, ran};
-use row_calls::held;
-use std::alloc::{AllocError, Global};
-use std::process::Abort;
-use std::test::Fail;
+use crate::tool::Upstare;
+use row_calls::{ListingRow, Programs, RowsDiffer, differing_listings, judged};
 
-/// The event that a letter stands for.
-fn event_of(letter: char) -> &'static str {
-    match letter {
-        's' => "0 step 0\n",
-        't' => "0 step 1\n",
-        'q' => "0 request\n",
-        'p' => "0 park 0\n",
-        'P' => "0 park 1\n",
-        'u' => "0 update\n",
-        'r' => "0 resume 0\n",
-        'R' => "0 resume 1\n",
-        'c' => "0 refuse 4 1 0\n",
-        'k' => "0 refuse 4 2 0\n",
-        'm' => "0 refuse 8\n",
-        'd' => "0 refuse 9 0\n",
-        _ => "",
-    }
-}
-
-/// The lines of a listing that is given by letters.
-fn listing(alloc: Global, letters: &str) -> Result<String, AllocError> {
-    let mut lines = String::new(alloc);
-    for letter in letters.chars() {
-        lines.push_str(event_of(letter))?;
-    }
-    Ok(lines)
-}
-
-/// Each row: its name, the listing by letters, and the event that it is refused at.
-const REFUSED: [(&str, &str, u32); 25] = [
-    ("refused for memory", "sssssqssspm", 11),
-    ("refused by another reason", "sssssqssspc", 11),
-    ("refused for depth", "sssssqssspd", 11),
-    ("updated before the thread is parked", "sssssqsssu", 10),
-    ("updated before the thread stands", "sssssqu", 7),
-    ("updated without a Request", "sssssu", 6),
-    ("updated before the Request is due", "sssu", 4),
-    ("updated twice", "sssssqssspuu", 12),
-    ("a Step of a standing thread", "sssssqssss", 10),
-    ("a Step of a parked thread", "sssssqsssps", 11),
-    (
-        "a Step of a thread that is parked still",
-        "sssssqssspus",
-        12,
-    ),
-    ("a Step of no thread", "sssssqssspurt", 13),
-    ("a Request at first", "q", 1),
-    ("a Request too early", "ssssq", 5),
-    ("a Request too late", "ssssss", 6),
-    ("two Requests", "sssssqq", 7),
-    ("a Request after the update", "sssssqssspurq", 13),
-    ("parked before the Request", "sssssp", 6),
-    ("parked where it doesn't stand", "sssssqp", 7),
-    ("parked twice", "sssssqssspp", 11),
-    ("parked after the update", "sssssqssspup", 12),
-    ("resumed before the outcome", "sssssqssspr", 11),
-    ("resumed twice", "sssssqssspurr", 13),
-    ("it ends after the Request", "sssssq", 7),
-    ("it ends after the update", "sssssqssspu", 12),
+/// Listings of the update of the loops.
+#[rattlefmt::skip]
+const OF_LOOPS: &[ListingRow<'static>] = &[
+    ("refused for memory", "--at 5",
+     "5 steps, request, 3 steps, park 0, refuse 8",
+     "err: schedule s refused at 11\nstatus 10\n"),
+    ("refused by another reason", "--at 5",
+     "5 steps, request, 3 steps, park 0, refuse 4 1 0",
+     "err: schedule s refused at 11\nstatus 10\n"),
+    ("refused for depth", "--at 5",
+     "5 steps, request, 3 steps, park 0, refuse 9 0",
+     "err: schedule s refused at 11\nstatus 10\n"),
+    ("updated before the thread is parked", "--at 5",
+     "5 steps, request, 3 steps, update",
+     "err: schedule s refused at 10\nstatus 10\n"),
+    ("updated before the thread stands", "--at 5",
+     "5 steps, request, update",
+     "err: schedule s refused at 7\nstatus 10\n"),
+    ("updated without a Request", "--at 5",
+     "5 steps, update",
+     "err: schedule s refused at 6\nstatus 10\n"),
+    ("updated before the Request is due", "--at 5",
+     "3 steps, update",
+     "err: schedule s refused at 4\nstatus 10\n"),
+    ("updated twice", "--at 5",
+     "5 steps, request, 3 steps, park 0, update, update",
+     "err: schedule s refused at 12\nstatus 10\n"),
+    ("a Step of a standing thread", "--at 5",
+     "5 steps, request, 4 steps",
+     "err: schedule s refused at 10\nstatus 10\n"),
+    ("a Step of a parked thread", "--at 5",
+     "5 steps, request, 3 steps, park 0, step 0",
+     "err: schedule s refused at 11\nstatus 10\n"),
+    ("a Step of a thread that is parked still", "--at 5",
+     "5 steps, request, 3 steps, park 0, update, step 0",
+     "err: schedule s refused at 12\nstatus 10\n"),
+    ("a Step of no thread", "--at 5",
+     "5 steps, request, 3 steps, park 0, update, resume 0, step 1",
+     "err: schedule s refused at 13\nstatus 10\n"),
+    ("a Request at first", "--at 5",
+     "request",
+     "err: schedule s refused at 1\nstatus 10\n"),
+    ("a Request too early", "--at 5",
+     "4 steps, request",
+     "err: schedule s refused at 5\nstatus 10\n"),
+    ("a Request too late", "--at 5",
+     "6 steps",
+     "err: schedule s refused at 6\nstatus 10\n"),
+    ("two Requests", "--at 5",
+     "5 steps, request, request",
+     "err: schedule s refused at 7\nstatus 10\n"),
+    ("a Request after the update", "--at 5",
+     "5 steps, request, 3 steps, park 0, update, resume 0, request",
+     "err: schedule s refused at 13\nstatus 10\n"),
+    ("parked before the Request", "--at 5",
+     "5 steps, park 0",
+     "err: schedule s refused at 6\nstatus 10\n"),
+    ("parked where it doesn't stand", "--at 5",
+     "5 steps, request, park 0",
+     "err: schedule s refused at 7\nstatus 10\n"),
+    ("parked twice", "--at 5",
+     "5 steps, request, 3 steps, park 0, park 0",
+     "err: schedule s refused at 11\nstatus 10\n"),
+    ("parked after the update", "--at 5",
+     "5 steps, request, 3 steps, park 0, update, park 0",
+     "err: schedule s refused at 12\nstatus 10\n"),
+    ("resumed before the outcome", "--at 5",
+     "5 steps, request, 3 steps, park 0, resume 0",
+     "err: schedule s refused at 11\nstatus 10\n"),
+    ("resumed twice", "--at 5",
+     "5 steps, request, 3 steps, park 0, update, resume 0, resume 0",
+     "err: schedule s refused at 13\nstatus 10\n"),
+    ("it ends after the Request", "--at 5",
+     "5 steps, request",
+     "err: schedule s refused at 7\nstatus 10\n"),
+    ("it ends after the update", "--at 5",
+     "5 steps, request, 3 steps, park 0, update",
+     "err: schedule s refused at 12\nstatus 10\n"),
+    ("the number of a worker says nothing of what an event does", "--at 5",
+     "5 steps, 7 request, 3 steps, 4294967295 park 0, 3 update, resume 0, 11 steps", r"
+old 1
+old 2
+new 3
+new 4
+err: end exit 0 steps 19 target - update done
+status 0
+"),
 ];
 
-/// So where the update has to be refused by its check.
-const OF_CHECK: [(&str, &str, u32); 5] = [
-    ("updated", "sssssqssspu", 11),
-    ("refused for memory", "sssssqssspm", 11),
-    ("refused by another check", "sssssqssspk", 11),
-    ("refused twice", "sssssqssspcc", 12),
-    ("it ends after the refusal", "sssssqssspcr", 13),
+/// Listings of an update that has to be refused by its check.
+#[rattlefmt::skip]
+const OF_CHECKED: &[ListingRow<'static>] = &[
+    ("by a check: updated", "--at 5",
+     "5 steps, request, 3 steps, park 0, update",
+     "err: schedule s refused at 11\nstatus 10\n"),
+    ("by a check: refused for memory", "--at 5",
+     "5 steps, request, 3 steps, park 0, refuse 8",
+     "err: schedule s refused at 11\nstatus 10\n"),
+    ("by a check: refused by another check", "--at 5",
+     "5 steps, request, 3 steps, park 0, refuse 4 2 0",
+     "err: schedule s refused at 11\nstatus 10\n"),
+    ("by a check: refused twice", "--at 5",
+     "5 steps, request, 3 steps, park 0, refuse 4 1 0, refuse 4 1 0",
+     "err: schedule s refused at 12\nstatus 10\n"),
+    ("by a check: it ends after the refusal", "--at 5",
+     "5 steps, request, 3 steps, park 0, refuse 4 1 0, resume 0",
+     "err: schedule s refused at 13\nstatus 10\n"),
 ];
 
-fn refused_at(
-    rt: &impl Abort,
-    alloc: Global,
-    map: &str,
-    row: (&str, &str, u32),
-) -> Result<(), Fail> {
-    let (name, letters, at) = row;
-    let patch = patch_of(rt, alloc, C1, C2, map)?;
-    let schedule = listing(alloc, letters)?;
-    let words = "run c1 --patch p --at 5 --schedule s --history h";
-    let mut outcome = ran(alloc, C1, &patch, schedule.as_bytes(), words)?;
-    let line = format!(in alloc; "schedule s refused at {at}\n")?;
-    assert_eq!(rt; outcome.err.bytes(), line.as_bytes(), "row {name}");
-    assert_eq!(rt; outcome.out.bytes(), b"".as_slice(), "row {name}");
-    assert_eq!(rt; outcome.status, 10, "row {name}");
-    let history = held(alloc, &mut outcome, "h");
-    assert_eq!(rt; history.as_bytes(), b"".as_slice(), "row {name}");
-    Ok(())
-}
-
-#[test]
-fn a_listing_is_refused_at_its_first_event_that_cannot_be(rt: HostRuntime) -> Result<(), Fail> {
-    for row in REFUSED {
-        refused_at(&rt, rt.alloc(), M1, row)?;
-    }
-    for row in OF_CHECK {
-        let map = "point main loop 1 -> loop 1; check n >= 3;";
-        refused_at(&rt, rt.alloc(), map, row)?;
-    }
-    Ok(())
-}
-
-/// Each row: its name, the moment and the listing by letters.
-const FOLLOWED: [(&str, u32, &str); 4] = [
-    (
-        "parked and resumed in turn",
-        6,
-        "ssstssqpPurRsssssssssttttsss",
-    ),
-    (
-        "parked and resumed from the last",
-        6,
-        "ssstssqPpuRrsssssssssttttsss",
-    ),
-    (
-        "one is parked still while the other goes on",
-        6,
-        "ssstssqpPursssssssssRttttsss",
-    ),
-    (
-        "one starts in the new program",
-        3,
-        "sssqsspPurRssssssssstttttsss",
-    ),
+/// Listings that are followed whole, of an update while a thread waits.
+#[rattlefmt::skip]
+const OF_BLOCKED: &[ListingRow<'static>] = &[
+    ("parked and resumed in turn", "--at 6",
+     "3 steps, step 1, 2 steps, request, park 0, park 1, update, resume 0, resume 1, \
+            9 steps, 4 steps of 1, 3 steps", r"
+w
+new 3
+err: end exit 0 steps 22 target - update done
+status 0
+"),
+    ("parked and resumed from the last", "--at 6",
+     "3 steps, step 1, 2 steps, request, park 1, park 0, update, resume 1, resume 0, \
+            9 steps, 4 steps of 1, 3 steps", r"
+w
+new 3
+err: end exit 0 steps 22 target - update done
+status 0
+"),
+    ("one is parked still while the other goes on", "--at 6",
+     "3 steps, step 1, 2 steps, request, park 0, park 1, update, resume 0, 9 steps, \
+            resume 1, 4 steps of 1, 3 steps", r"
+w
+new 3
+err: end exit 0 steps 22 target - update done
+status 0
+"),
+    ("one starts in the new program", "--at 3",
+     "3 steps, request, 2 steps, park 0, park 1, update, resume 0, resume 1, 9 steps, \
+            5 steps of 1, 3 steps", r"
+w
+new 3
+err: end exit 0 steps 22 target - update done
+status 0
+"),
 ];
 
-#[test]
-fn threads_park_and_resume_in_any_order(rt: HostRuntime) -> Result<(), Fail> {
-    let alloc = rt.alloc();
-    let patch = patch_of(&rt, alloc, BLOCKED, BLOCKED_NEW, LOOP)?;
-    for (name, at, letters) in FOLLOWED {
-        let schedule = listing(alloc, letters)?;
-        let words = format!(in alloc; "run c1 --patch p --at {at} --schedule s --history h")?;
-        let mut outcome = ran(alloc, BLOCKED, &patch, schedule.as_bytes(), &words)?;
-        let line = b"end exit 0 steps 22 target - update done\n".as_slice();
-        assert_eq!(&rt; outcome.err.bytes(), line, "row {name}");
-        assert_eq!(&rt; outcome.out.bytes(), b"w\nnew 3\n".as_slice(), "row {name}");
-        assert_eq!(&rt; outcome.status, 0, "row {name}");
-        let history = held(alloc, &mut outcome, "h");
-        assert_eq!(&rt; history.as_bytes(), schedule.as_bytes(), "row {name}");
-    }
-    Ok(())
-}
+/// The loops with a check that fails.
+const CHECKED: Programs<'static> = Programs {
+    old: C1,
+    new: C2,
+    map: "point main loop 1 -> loop 1; check n >= 3;",
+};
 
-/// The number of a worker says nothing of what an event does.
+/// Two threads, of which one waits for the other.
+const WAITING: Programs<'static> = Programs {
+    old: BLOCKED,
+    new: BLOCKED_NEW,
+    map: LOOP,
+};
+
 #[test]
-fn events_of_other_workers_are_followed(rt: HostRuntime) -> Result<(), Fail> {
-    let alloc = rt.alloc();
-    let patch = patch_of(&rt, alloc, C1, C2, M1)?;
-    let schedule = listing(alloc, "sssssqssspursssssssssss")?
-        .replace(alloc, "0 request", "7 request")?
-        .replace(alloc, "0 park", "4294967295 park")?
-        .replace(alloc, "0 update", "3 update")?;
-    let words = "run c1 --patch p --at 5 --schedule s --history h";
-    let mut outcome = ran(alloc, C1, &patch, schedule.as_bytes(), words)?;
-    let line = b"end exit 0 steps 19 target - update done\n".as_slice();
-    assert_eq!(&rt; outcome.err.bytes(), line);
-    let history = held(alloc, &mut outcome, "h");
-    assert_eq!(&rt; history.as_bytes(), schedule.as_bytes());
+fn a_listing_is_followed_or_refused_at_its_first_event_that_cannot_be(
+    rt: HostRuntime,
+) -> Result<(), RowsDiffer> {
+    for (programs, rows) in [
+        (LOOPS, OF_LOOPS),
+        (CHECKED, OF_CHECKED),
+        (WAITING, OF_BLOCKED),
+    ] {
+        judged(differing_listings(rt.alloc(), &Upstare, &programs, rows))?;
+    }
     Ok(())
 }

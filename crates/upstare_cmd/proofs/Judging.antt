@@ -12,9 +12,12 @@ use Rattle.patch_maker.specs.Made.{IsPatch}
 use Rattle.patch_maker.specs.declared.refused.PatchRefused.{PatchRefused}
 use Rattle.patch_maker.specs.declared.refused.PatchRefused.TheVariants as patch_refused
 use Rattle.patch_maker.specs.Made as maker
-use Rattle.sources.specs.Source.{IsAccepted}
+use Rattle.c_source.specs.Source.{IsAccepted}
 use Rattle.upstare_cmd.specs.Answer.{Answer}
-use Rattle.upstare_cmd.specs.Command.{OfMapping, OfSource, OfTexts, TextNames, entries_of, map_unsound}
+use Rattle.upstare_cmd.specs.Asked.{TextNames}
+use Rattle.upstare_cmd.specs.Meaning.{entries_of}
+use Rattle.upstare_cmd.specs.Parts.{OfMapping, OfSource, OfTexts}
+use Rattle.upstare_cmd.specs.Replies.{map_unsound}
 use Rattle.upstare_cmd.specs.Views as view
 use Rattle.upstare_cmd.specs.declared.judged.Judged.{Judged}
 use Rattle.upstare_cmd.specs.declared.judged.Judged.TheVariants.{Patch, Refused}

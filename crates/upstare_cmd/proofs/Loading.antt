@@ -3,19 +3,22 @@ use Rattle.std.proofs.Common.{◌≡◌, ◌∙◌, ℕ, ◌*◌, List, [], ◌�
 use Rattle.std.specs.Prelude.{Result, Ok, Err, IfOk}
 use Rattle.std.specs.declared.alloc.AllocError.{AllocError}
 use Rattle.c_tree.specs.declared.lifted.Lifted.{Lifted}
+use Rattle.c_tree.specs.declared.mapping.LEntry.{LEntry}
 use Rattle.c_tree.specs.declared.mapping.Mapping.{Mapping}
 use Rattle.c_tree.specs.declared.mapping.Patch as made
 use Rattle.c_tree.specs.declared.run.Settings.{Settings}
 use Rattle.c_tree.specs.Plan.{IsPlanned}
-use Rattle.drive.specs.Driven.{is_short}
+use Rattle.c_tree.specs.Run.{is_short}
 use Rattle.c_tree.specs.declared.run.Picker.TheVariants as picker
 use Rattle.load_texts.specs.Texts as load
 use Rattle.patch_maker.specs.Made.{IsPatch}
 use Rattle.world_core.specs.History.{History, IsRun, core, over}
 use Rattle.upstare_cmd.specs.Answer as meant
 use Rattle.upstare_cmd.specs.Arming.{armed, begun_with}
-use Rattle.upstare_cmd.specs.Command.{LoadMeans, LoadOf, LoadTells, Loads, Means, OfTexts, entries_of, load_names, load_patch, load_settings, settings}
-use Rattle.upstare_cmd.specs.Line as line
+use Rattle.upstare_cmd.specs.Asked.{load_names}
+use Rattle.upstare_cmd.specs.Meaning.{LoadMeans, LoadTells, Loads, Means, entries_of, load_patch, load_settings, settings}
+use Rattle.upstare_cmd.specs.Parts.{OfEntries, OfTexts}
+use Rattle.reports.specs.Line as line
 use Rattle.upstare_cmd.specs.Status.{code, status_of}
 use Rattle.upstare_cmd.specs.Update.{update_words}
 use Rattle.upstare_cmd.specs.declared.status.Status.{Status}
@@ -24,7 +27,8 @@ use Rattle.upstare_cmd.specs.Views as view
 use Rattle.upstare_cmd.specs.declared.answer.Answer.{Answer}
 use Rattle.upstare_cmd.specs.declared.judged.Judged.TheVariants as judged
 use Rattle.upstare_cmd.proofs.Judging.{of_patch, of_refused}
-use Rattle.words.specs.Command.{Load}
+use Rattle.upstare_cmd.proofs.Meant.{texts_mean}
+use Rattle.command_line.specs.Command.{Load}
 
 -- what is answered of a run that is over
 pub tells : (h : History) (n : ℕ) (end : End) (output : List ℕ) (steps : ℕ) (update bytes text empty : List ℕ) (pieces : List meant.Piece) (status : Status)
@@ -43,10 +47,10 @@ tells h n end output steps update bytes text empty pieces status ended leads pri
     )
 
 -- the events that were driven are planned, and the answer tells their run
-pub told_of_driven : (k : Settings) (n : ℕ) (h : History) (r : Result Answer AllocError) → IsPlanned k (is_short (core h).phase) (picker.Round None) h.events → h.settings ≡ k
+pub told_of_driven : (k : Settings) (n : ℕ) (h : History) (r : Result Answer AllocError) → IsPlanned k (is_short (core h)) (picker.Round None) h.events → h.settings ≡ k
     → IfOk r (λ a. LoadTells h.settings n h.events (view.answer a)) → IfOk r (λ a. Loads n k (view.answer a))
 told_of_driven k n h (Ok a) planned same tells =
-    let short : Settings → Type 0 = λ x. IsPlanned k (is_short (core (record { settings = x; events = h.events })).phase) (picker.Round None) h.events in
+    let short : Settings → Type 0 = λ x. IsPlanned k (is_short (core (record { settings = x; events = h.events }))) (picker.Round None) h.events in
     (h.events, subst short same planned, subst (λ (x : Settings). LoadTells x n h.events (view.answer a)) same tells)
 told_of_driven k n h (Err e) planned same tells = tt
 
@@ -61,14 +65,19 @@ of_begun p x n at input h r old late empty begun loads =
 pub of_same : (n : ℕ) (x y : made.Patch) (r : Result Answer AllocError) → y ≡ x → IfOk r (λ a. Loads n (load_settings n y) (view.answer a)) → IfOk r (λ a. Loads n (load_settings n x) (view.answer a))
 of_same n x y r is loads = subst (λ (z : made.Patch). IfOk r (λ a. Loads n (load_settings n z) (view.answer a))) is loads
 
--- the patch of a load's texts is the patch of its programs and entries
+-- the patch of a load's texts is that of its programs and entries
 patch_is : (n : ℕ) (p q : Lifted) (m : Mapping) (x : made.Patch) → IsPatch (load.old_source n) p (load.new_source n) q m x → x ≡ load_patch n p q x.entries
 patch_is n p q m x is = λ i. record { old_text = is.old_text i; old = is.old i; new_text = is.new_text i; new = is.new i; entries = x.entries }
 
+-- what is said of the patch of a load's texts: its run
+abbrev Runs : ℕ → Lifted → Lifted → List LEntry → meant.Answer → Type 0
+Runs n p q entries a = Loads n (load_settings n (load_patch n p q entries)) a
+
 loaded : (n : ℕ) (x : made.Patch) (a : meant.Answer) (p q : Lifted) (m : Mapping) → Loads n (load_settings n x) a → IsPatch (load.old_source n) p (load.new_source n) q m x
-    → LoadOf n p q (entries_of p q m) a
+    → OfEntries load_names.map (λ entries. Runs n p q entries a) (entries_of p q m) a
 loaded n x a p q m loads is =
-    subst (λ r. LoadOf n p q r a) (sym is.entries.are) (subst (λ (y : made.Patch). Loads n (load_settings n y) a) (patch_is n p q m x is) loads)
+    subst (λ r. OfEntries load_names.map (λ entries. Runs n p q entries a) r a) (sym is.entries.are)
+    (subst (λ (y : made.Patch). Loads n (load_settings n y) a) (patch_is n p q m x is) loads)
 
 -- What a load means, where its texts have a patch.
 pub of_load : (n : ℕ) (old new text : List ℕ) (x : made.Patch) (r : Result Answer AllocError) → old ≡ load.old_source n → new ≡ load.new_source n → text ≡ load.mapping n
@@ -77,8 +86,10 @@ of_load n old new text x (Ok y) a b c of loads =
     let texts : view.IsOfTexts load_names (load.old_source n) (load.new_source n) (load.mapping n) (judged.Patch x) =
     subst (λ s. view.IsOfTexts load_names s (load.new_source n) (load.mapping n) (judged.Patch x)) a
     (subst (λ t. view.IsOfTexts load_names old t (load.mapping n) (judged.Patch x)) b (subst (λ t. view.IsOfTexts load_names old new t (judged.Patch x)) c of)) in
-    of_patch load_names (load.old_source n) (load.new_source n) (load.mapping n) x (λ p q r. LoadOf n p q r (view.answer y)) (view.answer y) texts
-    (λ p q m is. loaded n x (view.answer y) p q m loads is)
+    texts_mean load_names (load.old_source n) (load.new_source n) (load.mapping n) (Runs n) (view.answer y)
+    (of_patch load_names (load.old_source n) (load.new_source n) (load.mapping n) x
+    (λ p q r. OfEntries load_names.map (λ entries. Runs n p q entries (view.answer y)) r (view.answer y)) (view.answer y) texts
+    (λ p q m is. loaded n x (view.answer y) p q m loads is))
 of_load n old new text x (Err e) a b c of loads = tt
 
 -- What a load means, where one of its texts is refused.
@@ -86,8 +97,9 @@ pub of_refused_load : (n : ℕ) (old new text : List ℕ) (y : meant.Answer) →
     → OfTexts load_names old new text (λ p q r. view.TurnsDownEntries load_names.map r y) y → LoadMeans n y
 of_refused_load n old new text y a b c down =
     let Down : List ℕ → List ℕ → List ℕ → Type 0 = λ s t u. OfTexts load_names s t u (λ p q r. view.TurnsDownEntries load_names.map r y) y in
-    of_refused load_names (load.old_source n) (load.new_source n) (load.mapping n) (λ p q r. LoadOf n p q r y) y (λ p q why is. is)
-    (subst (λ s. Down s (load.new_source n) (load.mapping n)) a (subst (λ t. Down old t (load.mapping n)) b (subst (λ u. Down old new u) c down)))
+    texts_mean load_names (load.old_source n) (load.new_source n) (load.mapping n) (Runs n) y
+    (of_refused load_names (load.old_source n) (load.new_source n) (load.mapping n) (λ p q r. OfEntries load_names.map (λ entries. Runs n p q entries y) r y) y (λ p q why is. is)
+    (subst (λ s. Down s (load.new_source n) (load.mapping n)) a (subst (λ t. Down old t (load.mapping n)) b (subst (λ u. Down old new u) c down))))
 
 -- A load reads no text.
 pub means_none : (n : ℕ) (texts : List (List ℕ)) (r : Result Answer AllocError) → length texts ≡ 0 → IfOk r (λ a. LoadMeans n (view.answer a)) → IfOk r (λ a. Means (Load n) texts (view.answer a))

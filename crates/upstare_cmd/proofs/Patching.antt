@@ -3,19 +3,24 @@ use Rattle.std.proofs.Common.{◌≡◌, ◌∙◌, ℕ, List, [], ◌∷◌, le
 use Rattle.std.specs.Prelude.{Result, Ok, Err, IfOk}
 use Rattle.std.specs.declared.alloc.AllocError.{AllocError}
 use Rattle.c_tree.specs.declared.lifted.Lifted.{Lifted}
+use Rattle.c_tree.specs.declared.mapping.LEntry.{LEntry}
 use Rattle.c_tree.specs.declared.mapping.Mapping.{Mapping}
 use Rattle.c_tree.specs.declared.mapping.Patch as made
 use Rattle.c_tree.specs.Canonical.{canonical_text}
 use Rattle.patch_file.specs.Whole.{file_of}
-use Rattle.patch_frame.specs.Framing.{framed}
+use Rattle.patch_form.specs.Framing.{framed}
 use Rattle.patch_maker.specs.Made.{IsPatch}
 use Rattle.upstare_cmd.specs.Answer.{Answer}
-use Rattle.upstare_cmd.specs.Command.{Means, OfTexts, PatchMeans, entries_of, names_of, patch_of, put_patch}
+use Rattle.upstare_cmd.specs.Asked.{names_of}
+use Rattle.upstare_cmd.specs.Meaning.{Means, PatchMeans, entries_of}
+use Rattle.upstare_cmd.specs.Parts.{OfEntries, OfTexts}
+use Rattle.upstare_cmd.specs.Replies.{put_patch}
 use Rattle.upstare_cmd.specs.declared.answer.Answer as code
 use Rattle.upstare_cmd.specs.declared.judged.Judged.TheVariants as judged
 use Rattle.upstare_cmd.specs.Views as view
 use Rattle.upstare_cmd.proofs.Judging.{of_patch, of_refused}
-use Rattle.words.specs.Command.{Patch as ToPatch, PatchWords}
+use Rattle.upstare_cmd.proofs.Meant.{texts_mean}
+use Rattle.command_line.specs.Command.{Patch as ToPatch, PatchWords}
 
 -- the bytes of a patch of two texts, by their programs and the entries of a mapping
 file_is : (a b : List ℕ) (p q : Lifted) (m : Mapping) (x : made.Patch) → IsPatch a p b q m x → file_of x ≡ framed a b (canonical_text p q x.entries)
@@ -25,25 +30,29 @@ file_is a b p q m x is =
     ∙ ap (λ o. framed a b (canonical_text o x.new x.entries)) is.old
     ∙ ap (λ n. framed a b (canonical_text p n x.entries)) is.new
 
--- the file of a patch is what is answered of its mapping
-put : (words : PatchWords) (a b : List ℕ) (x : made.Patch) (p q : Lifted) (m : Mapping) → IsPatch a p b q m x
-    → put_patch words.output (file_of x) ≡ patch_of words (λ entries. framed a b (canonical_text p q entries)) (entries_of p q m)
-put words a b x p q m is =
-    ap (put_patch words.output) (file_is a b p q m x is)
-    ∙ ap (patch_of words (λ entries. framed a b (canonical_text p q entries))) (sym is.entries.are)
+-- what is answered of a patch is the file of its texts and entries
+abbrev Puts : PatchWords → List ℕ → List ℕ → Lifted → Lifted → List LEntry → Answer → Type 0
+Puts words a b p q entries y = y ≡ put_patch words.output (framed a b (canonical_text p q entries))
+
+puts : (words : PatchWords) (a b : List ℕ) (x : made.Patch) (p q : Lifted) (m : Mapping) (y : Answer) → IsPatch a p b q m x → y ≡ put_patch words.output (file_of x)
+    → OfEntries words.map (λ entries. Puts words a b p q entries y) (entries_of p q m) y
+puts words a b x p q m y is done =
+    subst (λ r. OfEntries words.map (λ entries. Puts words a b p q entries y) r y) (sym is.entries.are) (done ∙ ap (put_patch words.output) (file_is a b p q m x is))
 
 -- What a patch means, where the three texts have one.
 pub patch_put : (words : PatchWords) (a b text : List ℕ) (x : made.Patch) (r : Result code.Answer AllocError) → view.IsOfTexts (names_of words) a b text (judged.Patch x)
     → IfOk r (λ y. view.answer y ≡ put_patch words.output (file_of x)) → IfOk r (λ y. PatchMeans words a b text (view.answer y))
 patch_put words a b text x (Ok y) of done =
-    of_patch (names_of words) a b text x (λ p q r. view.answer y ≡ patch_of words (λ entries. framed a b (canonical_text p q entries)) r) (view.answer y) of
-    (λ p q m is. done ∙ put words a b x p q m is)
+    texts_mean (names_of words) a b text (Puts words a b) (view.answer y)
+    (of_patch (names_of words) a b text x (λ p q r. OfEntries words.map (λ entries. Puts words a b p q entries (view.answer y)) r (view.answer y)) (view.answer y) of
+    (λ p q m is. puts words a b x p q m (view.answer y) is done))
 patch_put words a b text x (Err e) of done = tt
 
 -- What a patch means, where one of the three texts is refused.
 pub patch_refused : (words : PatchWords) (a b text : List ℕ) (y : Answer) → OfTexts (names_of words) a b text (λ p q r. view.TurnsDownEntries words.map r y) y → PatchMeans words a b text y
 patch_refused words a b text y down =
-    of_refused (names_of words) a b text (λ p q r. y ≡ patch_of words (λ entries. framed a b (canonical_text p q entries)) r) y (λ p q why is. is) down
+    texts_mean (names_of words) a b text (Puts words a b) y
+    (of_refused (names_of words) a b text (λ p q r. OfEntries words.map (λ entries. Puts words a b p q entries y) r y) y (λ p q why is. is) down)
 
 -- What three texts mean is what the command means.
 three : (xs : List (List ℕ)) (x y z d e f : List ℕ) → length xs ≡ 3 → x ≡ get_or xs 0 d → y ≡ get_or xs 1 e → z ≡ get_or xs 2 f → xs ≡ x ∷ y ∷ z ∷ []

@@ -8,12 +8,16 @@ use Rattle.c_tree.specs.declared.mapping.Mapping.{Mapping}
 use Rattle.map_lang.specs.Refusal as mapping
 use Rattle.map_lang.specs.declared.refused.MapRefused.{MapRefused}
 use Rattle.map_lang.specs.declared.refused.MapRefused.TheVariants as map_refused
-use Rattle.sources.specs.Refusal as source
-use Rattle.sources.specs.declared.refused.SourceRefused.{SourceRefused}
-use Rattle.sources.specs.declared.refused.SourceRefused.TheVariants as refused
+use Rattle.c_source.specs.Refusal as source
+use Rattle.c_source.specs.declared.refused.SourceRefused.{SourceRefused}
+use Rattle.c_source.specs.declared.refused.SourceRefused.TheVariants as refused
 use Rattle.upstare_cmd.specs.Answer.{Answer}
-use Rattle.upstare_cmd.specs.Command.{Wanted, AreRead, OfMapping, OfSource, Means, Intends, means, wanted}
-use Rattle.words.specs.Command.{Command}
+use Rattle.upstare_cmd.specs.Asked.{Wanted, wanted}
+use Rattle.upstare_cmd.specs.Carries.{Intends, means}
+use Rattle.upstare_cmd.specs.Meaning.{Means}
+use Rattle.upstare_cmd.specs.Parts.{OfMapping, OfSource}
+use Rattle.upstare_cmd.specs.Reading.{AreRead}
+use Rattle.command_line.specs.Command.{Command}
 use Rattle.upstare_cmd.specs.declared.answer.Answer as code
 use Rattle.upstare_cmd.specs.Views as view
 
@@ -50,10 +54,10 @@ means_one c d texts x e source r same one is bytes meant =
     let all : texts ≡ source ∷ [] = one_text texts x e one is ∙ ap (λ z. z ∷ []) (sym bytes) in
     subst (λ ts. P c ts) (sym all) (subst (λ k. P k (source ∷ [])) (sym same) meant)
 
-pub intended : (c : Command) (fs : List Wanted) (s t : Shelf) (texts ys : List (List ℕ)) (r : Result code.Answer AllocError) → fs ≡ wanted c → AreRead fs s texts → ys ≡ texts
+pub intended : (c : Command) (fs : List Wanted) (s t : Shelf) (texts ys : List (List ℕ)) (r : Result code.Answer AllocError) → fs ≡ wanted c → AreRead fs s.held s.reading texts t.reading → ys ≡ texts
     → IfOk r (λ a. Means c ys (view.answer a)) → IfOk r (λ a. Intends c s t (view.answer a))
 intended c fs s t texts ys (Ok a) same read is meant =
-    let P : List Wanted → Type 0 = λ gs. AreRead gs s texts in
-    let Q : List (List ℕ) → Type 0 = λ zs. AreRead (wanted c) s zs in
+    let P : List Wanted → Type 0 = λ gs. AreRead gs s.held s.reading texts t.reading in
+    let Q : List (List ℕ) → Type 0 = λ zs. AreRead (wanted c) s.held s.reading zs t.reading in
     means ys (subst Q (sym is) (subst P same read)) meant
 intended c fs s t texts ys (Err e) same read is meant = meant

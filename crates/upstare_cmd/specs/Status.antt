@@ -5,6 +5,7 @@ use Rattle.c_tree.specs.declared.run.End.TheVariants as end
 use Rattle.upstare_cmd.specs.declared.status.Status.{Status}
 use Rattle.upstare_cmd.specs.declared.status.Status.TheVariants as s
 
+-- the number of a status, with which the tool exits
 abbrev pub code : Status → ℕ
 code s.Done = 0
 code s.Usage = 1

@@ -3,7 +3,7 @@ use Rattle.std.specs.Prelude.{ℕ, List, [], ◌++◌, Option, Some, None, codes
 use Rattle.c_tree.specs.declared.event.Reason.{Reason}
 use Rattle.c_tree.specs.declared.run.Armed.{Armed}
 use Rattle.c_tree.specs.Link.{link_of}
-use Rattle.refusals.specs.Words.{reason}
+use Rattle.reports.specs.Words.{reason}
 use Rattle.world_core.specs.History.{History}
 use Rattle.world_core.specs.Outcome.{outcome}
 use Rattle.world_core.specs.Refused.{named_at_refusal}

@@ -1,20 +1,20 @@
 //! The command `check`.
 
 ghost use Rattle.std.specs.Prelude.{◌≡◌, IfOk};
-ghost use Rattle.upstare_cmd.specs.Command as spec;
+ghost use Rattle.upstare_cmd.specs.Parts as parts;
+ghost use Rattle.upstare_cmd.specs.Replies as replies;
 ghost use Rattle.upstare_cmd.specs.Views as view;
 
 use crate::answer::Answer;
-use crate::line;
-use crate::reply::prints;
-use crate::turned_down::turned_down;
+use crate::reply::{prints, turned_down};
+use c_source::accepted;
 use c_tree::Lifted;
-use sources::accepted;
+use reports::line;
 use std::alloc::{AllocError, Global};
 
 /// How much an accepted program has of each kind.
 fn counted(alloc: Global, program: &Lifted) -> Result<Answer, AllocError>
-    ensures { IfOk result (λ a. view.answer a ≡ spec.counted program.now) }
+    ensures { IfOk result (λ a. view.answer a ≡ replies.prints (replies.counts program.now)) }
 {
     let line = line::counts(
         alloc,
@@ -28,7 +28,9 @@ fn counted(alloc: Global, program: &Lifted) -> Result<Answer, AllocError>
 
 /// What `check` answers where the file holds this.
 pub fn check_meant(alloc: Global, name: &str, source: &[u8]) -> Result<Answer, AllocError>
-    ensures { IfOk result (λ a. spec.OfSource name.now source.now (λ p. view.answer a ≡ spec.counted p) (view.answer a)) }
+    ensures { IfOk result
+        (λ a. parts.OfSource name.now source.now
+        (λ p. view.answer a ≡ replies.prints (replies.counts p)) (view.answer a)) }
 {
     match accepted(alloc, source) {
         Ok(program) => counted(alloc, &program),

@@ -7,15 +7,15 @@ ghost use Rattle.c_tree.specs.MapForm.{HasMapForm};
 ghost use Rattle.upstare_cmd.specs.Views as view;
 
 use crate::answer::Answer;
-use crate::turned_down::{entry_turned_down, map_turned_down, turned_down};
+use crate::reply::{entry_turned_down, map_turned_down, turned_down};
+use c_source::accepted;
 use c_tree::{Lifted, Mapping, Text};
 use map_lang::read_map;
 use patch_maker::{SoundPatch, make_patch};
-use sources::accepted;
 use std::alloc::{AllocError, Global};
 
 /// The names by which a line tells of the three texts.
-#[derive(Clone, Copy, Debug)]
+#[derive(Clone, Copy)]
 pub struct TextNames<'a> {
     pub old: &'a str,
     pub new: &'a str,
@@ -43,7 +43,8 @@ fn entries_judged(
     requires old_limit { KeepsLimit old }
     requires new_limit { KeepsLimit new }
     requires form { HasMapForm mapping.now }
-    ensures { IfOk result (view.IsOfEntries (view.names names.now) old_text.now old new_text.now new mapping.now) }
+    ensures { IfOk result
+        (view.IsOfEntries (view.names names.now) old_text.now old new_text.now new mapping.now) }
 {
     let old_text = Text::from_vec(old_text.to_vec(alloc)?);
     let new_text = Text::from_vec(new_text.to_vec(alloc)?);
@@ -65,7 +66,8 @@ fn mapping_judged(
     requires old_limit { KeepsLimit old }
     requires new_limit { KeepsLimit new }
     requires small { length map_text.now ≤ 4194304 }
-    ensures { IfOk result (view.IsOfMapping (view.names names.now) old_text.now old new_text.now new map_text.now) }
+    ensures { IfOk result
+        (view.IsOfMapping (view.names names.now) old_text.now old new_text.now new map_text.now) }
 {
     match read_map(alloc, map_text) {
         Ok(mapping) => entries_judged(alloc, names, old_text, old, new_text, new, &mapping),
@@ -83,7 +85,8 @@ fn new_judged(
 ) -> Result<Judged, AllocError>
     requires limit { KeepsLimit old }
     requires small { length map_text.now ≤ 4194304 }
-    ensures { IfOk result (view.IsOfNew (view.names names.now) old_text.now old new_text.now map_text.now) }
+    ensures { IfOk result
+        (view.IsOfNew (view.names names.now) old_text.now old new_text.now map_text.now) }
 {
     match accepted(alloc, new_text) {
         Ok(new) => mapping_judged(alloc, names, old_text, old, new_text, new, map_text),
@@ -100,7 +103,8 @@ pub fn texts_judged(
     map_text: &[u8],
 ) -> Result<Judged, AllocError>
     requires small { length map_text.now ≤ 4194304 }
-    ensures { IfOk result (view.IsOfTexts (view.names names.now) old_text.now new_text.now map_text.now) }
+    ensures { IfOk result
+        (view.IsOfTexts (view.names names.now) old_text.now new_text.now map_text.now) }
 {
     match accepted(alloc, old_text) {
         Ok(old) => new_judged(alloc, names, old_text, old, new_text, map_text),

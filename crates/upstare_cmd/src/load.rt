@@ -3,13 +3,12 @@
 ghost use Rattle.std.specs.Prelude.{◌≡◌, ◌≤◌, ◌∷◌, [], IfOk, Some};
 ghost use Rattle.upstare_cmd.specs.Answer as meant;
 ghost use Rattle.upstare_cmd.specs.Arming.{Fits};
-ghost use Rattle.upstare_cmd.specs.Command as spec;
+ghost use Rattle.upstare_cmd.specs.Meaning as meaning;
 ghost use Rattle.upstare_cmd.specs.Views as view;
 ghost use Rattle.world_core.specs.History.{over};
 
 use crate::answer::{Answer, Piece};
 use crate::judged::{Judged, TextNames, texts_judged};
-use crate::line;
 use crate::run::started;
 use crate::status::status_of;
 use crate::told::update_words;
@@ -17,6 +16,7 @@ use c_tree::{End, Patch, Row, Text};
 use drive::drive_round;
 use load_texts::{mapping, mappings_are_short, new_source, old_source, request_at};
 use patch_maker::SoundPatch;
+use reports::line;
 use std::alloc::{AllocError, Global};
 use world_core::World;
 
@@ -43,7 +43,8 @@ fn pieces_of(alloc: Global, line: Text, output: Text) -> Result<Row<Piece>, Allo
 /// What is answered of a load's run that is over.
 fn told(alloc: Global, world: &World, n: u32, end: End) -> Result<Answer, AllocError>
     requires { over world.now ≡ Some end }
-    ensures { IfOk result (λ a. spec.LoadTells world.now.settings n world.now.events (view.answer a)) }
+    ensures { IfOk result (λ a. meaning.LoadTells world.now.settings n world.now.events
+        (view.answer a)) }
 {
     let output = Text::from_vec(world.output().to_vec(alloc)?);
     let update = update_words(alloc, world)?;
@@ -58,7 +59,7 @@ fn told(alloc: Global, world: &World, n: u32, end: End) -> Result<Answer, AllocE
 /// Runs a load's World to its end, each thread in turn.
 fn driven(alloc: Global, world: &mut World, n: u32) -> Result<Answer, AllocError>
     requires new { world.old.events ≡ [] }
-    ensures { IfOk result (λ a. spec.Loads n world.old.settings (view.answer a)) }
+    ensures { IfOk result (λ a. meaning.Loads n world.old.settings (view.answer a)) }
 {
     let end = drive_round(world)?;
     told(alloc, world, n, end)
@@ -68,7 +69,7 @@ fn driven(alloc: Global, world: &mut World, n: u32) -> Result<Answer, AllocError
 fn patch_loaded(alloc: Global, n: u32, patch: Patch) -> Result<Answer, AllocError>
     requires range { n ≤ 1000 }
     requires fits { Fits patch.old patch }
-    ensures { IfOk result (λ a. spec.Loads n (spec.load_settings n patch) (view.answer a)) }
+    ensures { IfOk result (λ a. meaning.Loads n (meaning.load_settings n patch) (view.answer a)) }
 {
     let program = patch.old.copy()?;
     let empty = Text::from_vec(Vec::new(alloc));
@@ -79,7 +80,7 @@ fn patch_loaded(alloc: Global, n: u32, patch: Patch) -> Result<Answer, AllocErro
 /// The run of a load by the patch of its texts.
 fn sound_loaded(alloc: Global, n: u32, patch: SoundPatch) -> Result<Answer, AllocError>
     requires range { n ≤ 1000 }
-    ensures { IfOk result (λ a. spec.Loads n (spec.load_settings n patch) (view.answer a)) }
+    ensures { IfOk result (λ a. meaning.Loads n (meaning.load_settings n patch) (view.answer a)) }
 {
     patch_loaded(alloc, n, patch.into_patch())
 }
@@ -87,7 +88,7 @@ fn sound_loaded(alloc: Global, n: u32, patch: SoundPatch) -> Result<Answer, Allo
 /// What `load` answers.
 pub fn load_meant(alloc: Global, n: u32) -> Result<Answer, AllocError>
     requires { n ≤ 1000 }
-    ensures { IfOk result (λ a. spec.LoadMeans n (view.answer a)) }
+    ensures { IfOk result (λ a. meaning.LoadMeans n (view.answer a)) }
 {
     mappings_are_short();
     let old = old_source(alloc, n)?;

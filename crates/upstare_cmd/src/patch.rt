@@ -2,27 +2,29 @@
 
 ghost use Rattle.std.specs.Prelude.{◌≡◌, ◌≤◌, IfOk, length};
 ghost use Rattle.patch_file.specs.Whole.{file_of};
-ghost use Rattle.upstare_cmd.specs.Command as spec;
+ghost use Rattle.upstare_cmd.specs.Asked as asks;
+ghost use Rattle.upstare_cmd.specs.Meaning as meaning;
+ghost use Rattle.upstare_cmd.specs.Replies as replies;
 ghost use Rattle.upstare_cmd.specs.Views as view;
 ghost use Rattle.upstare_cmd.specs.Views.{Fit};
-ghost use Rattle.words.specs.Command as asked_for;
-ghost use Rattle.words.specs.Views as words_view;
+ghost use Rattle.command_line.specs.Command as asked_for;
+ghost use Rattle.command_line.specs.Views as words_view;
 
 use crate::answer::Answer;
 use crate::judged::{Judged, TextNames, texts_judged};
 use crate::reply::{patch_too_long, patch_written};
 use c_tree::Text;
+use command_line::PatchWords;
 use patch_file::write_patch;
 use patch_maker::SoundPatch;
 use std::alloc::{AllocError, Global};
-use words::PatchWords;
 
 /// The most bytes of a patch's file.
 const MAX_PATCH: usize = 4_194_304;
 
 /// A patch is written where its file may hold so much.
 fn put_patch(alloc: Global, name: &str, patch: Text) -> Result<Answer, AllocError>
-    ensures { IfOk result (λ a. view.answer a ≡ spec.put_patch name.now patch) }
+    ensures { IfOk result (λ a. view.answer a ≡ replies.put_patch name.now patch) }
 {
     if patch.as_bytes().len() <= MAX_PATCH {
         patch_written(alloc, name, patch)
@@ -33,7 +35,7 @@ fn put_patch(alloc: Global, name: &str, patch: Text) -> Result<Answer, AllocErro
 
 /// What is answered of a patch that is made.
 fn made_meant(alloc: Global, output: &str, patch: &SoundPatch) -> Result<Answer, AllocError>
-    ensures { IfOk result (λ a. view.answer a ≡ spec.put_patch output.now (file_of patch.now)) }
+    ensures { IfOk result (λ a. view.answer a ≡ replies.put_patch output.now (file_of patch.now)) }
 {
     let file = write_patch(alloc, patch)?;
     put_patch(alloc, output, Text::from_vec(file))
@@ -49,7 +51,8 @@ fn texts_meant(
 ) -> Result<Answer, AllocError>
     requires small { length map_text.now ≤ 4194304 }
     ensures { IfOk result (λ a.
-        spec.PatchMeans (words_view.patch words.now) old_text.now new_text.now map_text.now (view.answer a)) }
+        meaning.PatchMeans (words_view.patch words.now) old_text.now new_text.now map_text.now
+        (view.answer a)) }
 {
     let names = TextNames {
         old: words.old,
@@ -68,8 +71,10 @@ pub fn patch_meant(
     words: &PatchWords<'_>,
     texts: &[Text],
 ) -> Result<Answer, AllocError>
-    requires fit { Fit (spec.wanted (asked_for.Patch (words_view.patch words.now))) texts.now }
-    ensures { IfOk result (λ a. spec.Means (asked_for.Patch (words_view.patch words.now)) texts.now (view.answer a)) }
+    requires fit { Fit (asks.wanted (asked_for.Patch (words_view.patch words.now))) texts.now }
+    ensures { IfOk result
+        (λ a. meaning.Means (asked_for.Patch (words_view.patch words.now)) texts.now
+        (view.answer a)) }
 {
     let [old, new, mapping] = texts else {
         unreachable!()

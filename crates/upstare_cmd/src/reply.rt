@@ -1,18 +1,22 @@
 //! The answers of the commands.
 
 ghost use Rattle.std.specs.Prelude.{◌≡◌, IfOk};
-ghost use Rattle.upstare_cmd.specs.Command as spec;
+ghost use Rattle.upstare_cmd.specs.Replies as replies;
 ghost use Rattle.upstare_cmd.specs.Views as view;
 
 use crate::answer::{Answer, Piece};
-use crate::line;
 use crate::status::Status;
+use c_source::SourceRefused;
 use c_tree::{EntryCause, FileCause, ReadCause, Row, SourceCause, Text};
+use map_lang::MapRefused;
+use patch_file::FileRefused;
+use patch_maker::PatchRefused;
+use reports::line;
 use std::alloc::{AllocError, Global};
 
 /// A line alone.
 fn says(alloc: Global, line: Text, status: Status) -> Answer
-    ensures { view.answer result ≡ spec.says line status }
+    ensures { view.answer result ≡ replies.says line status }
 {
     Answer {
         pieces: Row::from_vec(Vec::new(alloc)),
@@ -23,7 +27,7 @@ fn says(alloc: Global, line: Text, status: Status) -> Answer
 
 /// A text for the output, and then a line.
 fn puts(alloc: Global, text: Text, line: Text, status: Status) -> Result<Answer, AllocError>
-    ensures { IfOk result (λ a. view.answer a ≡ spec.puts text line status) }
+    ensures { IfOk result (λ a. view.answer a ≡ replies.puts text line status) }
 {
     let mut pieces = Vec::new(alloc);
     pieces.push(Piece::Out(text))?;
@@ -36,7 +40,7 @@ fn puts(alloc: Global, text: Text, line: Text, status: Status) -> Result<Answer,
 
 /// A text alone.
 pub fn prints(alloc: Global, text: Text) -> Result<Answer, AllocError>
-    ensures { IfOk result (λ a. view.answer a ≡ spec.prints text) }
+    ensures { IfOk result (λ a. view.answer a ≡ replies.prints text) }
 {
     let line = Text::from_vec(Vec::new(alloc));
     puts(alloc, text, line, Status::Done)
@@ -44,21 +48,21 @@ pub fn prints(alloc: Global, text: Text) -> Result<Answer, AllocError>
 
 /// The words ask for nothing that there is.
 pub fn usage(alloc: Global) -> Result<Answer, AllocError>
-    ensures { IfOk result (λ a. view.answer a ≡ spec.usage) }
+    ensures { IfOk result (λ a. view.answer a ≡ replies.usage) }
 {
     Ok(says(alloc, line::usage(alloc)?, Status::Usage))
 }
 
 /// A file could not be read.
 pub fn cannot_read(alloc: Global, name: &str) -> Result<Answer, AllocError>
-    ensures { IfOk result (λ a. view.answer a ≡ spec.cannot_read name.now) }
+    ensures { IfOk result (λ a. view.answer a ≡ replies.cannot_read name.now) }
 {
     Ok(says(alloc, line::cannot_read(alloc, name)?, Status::ReadFault))
 }
 
 /// A source is refused, `at` bytes from its start.
 pub fn refused(alloc: Global, name: &str, at: u32, why: &SourceCause) -> Result<Answer, AllocError>
-    ensures { IfOk result (λ a. view.answer a ≡ spec.refused name.now at why.now) }
+    ensures { IfOk result (λ a. view.answer a ≡ replies.refused name.now at why.now) }
 {
     Ok(says(
         alloc,
@@ -74,7 +78,7 @@ pub fn map_refused(
     at: u32,
     why: &ReadCause,
 ) -> Result<Answer, AllocError>
-    ensures { IfOk result (λ a. view.answer a ≡ spec.map_refused name.now at why.now) }
+    ensures { IfOk result (λ a. view.answer a ≡ replies.map_refused name.now at why.now) }
 {
     Ok(says(
         alloc,
@@ -90,7 +94,7 @@ pub fn map_unsound(
     entry: u32,
     why: EntryCause,
 ) -> Result<Answer, AllocError>
-    ensures { IfOk result (λ a. view.answer a ≡ spec.map_unsound name.now entry why) }
+    ensures { IfOk result (λ a. view.answer a ≡ replies.map_unsound name.now entry why) }
 {
     Ok(says(
         alloc,
@@ -101,7 +105,7 @@ pub fn map_unsound(
 
 /// A patch would have more bytes than its file may.
 pub fn patch_too_long(alloc: Global, name: &str) -> Result<Answer, AllocError>
-    ensures { IfOk result (λ a. view.answer a ≡ spec.patch_too_long name.now) }
+    ensures { IfOk result (λ a. view.answer a ≡ replies.patch_too_long name.now) }
 {
     Ok(says(
         alloc,
@@ -117,7 +121,7 @@ pub fn patch_refused(
     at: u32,
     why: &FileCause,
 ) -> Result<Answer, AllocError>
-    ensures { IfOk result (λ a. view.answer a ≡ spec.patch_refused name.now at why.now) }
+    ensures { IfOk result (λ a. view.answer a ≡ replies.patch_refused name.now at why.now) }
 {
     Ok(says(
         alloc,
@@ -135,7 +139,7 @@ pub fn patch_differs(
     old: usize,
     at: usize,
 ) -> Result<Answer, AllocError>
-    ensures { IfOk result (λ a. view.answer a ≡ spec.patch_differs name.now source old at) }
+    ensures { IfOk result (λ a. view.answer a ≡ replies.patch_differs name.now source old at) }
 {
     Ok(says(
         alloc,
@@ -146,7 +150,7 @@ pub fn patch_differs(
 
 /// A patch for its file, and then how many bytes it has for the output.
 pub fn patch_written(alloc: Global, name: &str, patch: Text) -> Result<Answer, AllocError>
-    ensures { IfOk result (λ a. view.answer a ≡ spec.patch_written name.now patch) }
+    ensures { IfOk result (λ a. view.answer a ≡ replies.patch_written name.now patch) }
 {
     let line = line::written(alloc, patch.as_bytes().len())?;
     let mut pieces = Vec::new(alloc);
@@ -161,18 +165,58 @@ pub fn patch_written(alloc: Global, name: &str, patch: Text) -> Result<Answer, A
 
 /// A file holds more than it may.
 pub fn too_long(alloc: Global, name: &str) -> Result<Answer, AllocError>
-    ensures { IfOk result (λ a. view.answer a ≡ spec.too_long name.now) }
+    ensures { IfOk result (λ a. view.answer a ≡ replies.too_long name.now) }
 {
     Ok(says(alloc, line::too_long(alloc, name)?, Status::TooLong))
 }
 
 /// A schedule is refused at its event of this number, from 1.
 pub fn schedule_refused(alloc: Global, name: &str, n: u64) -> Result<Answer, AllocError>
-    ensures { IfOk result (λ a. view.answer a ≡ spec.schedule_refused name.now n) }
+    ensures { IfOk result (λ a. view.answer a ≡ replies.schedule_refused name.now n) }
 {
     Ok(says(
         alloc,
         line::schedule_refused(alloc, name, n)?,
         Status::ScheduleRefused,
     ))
+}
+
+/// What is answered where a source gave no program.
+pub fn turned_down(alloc: Global, name: &str, why: SourceRefused) -> Result<Answer, AllocError>
+    ensures { IfOk result (λ a. view.TurnsDown name.now why (view.answer a)) }
+{
+    match why {
+        SourceRefused::At(at, why) => refused(alloc, name, at, &why),
+        SourceRefused::Memory(e) => Err(e),
+    }
+}
+
+/// What is answered where a text gave no mapping.
+pub fn map_turned_down(alloc: Global, name: &str, why: MapRefused) -> Result<Answer, AllocError>
+    ensures { IfOk result (λ a. view.TurnsDownMap name.now why (view.answer a)) }
+{
+    match why {
+        MapRefused::At(at, why) => map_refused(alloc, name, at, &why),
+        MapRefused::Memory(e) => Err(e),
+    }
+}
+
+/// What is answered where a mapping gave no patch.
+pub fn entry_turned_down(alloc: Global, name: &str, why: PatchRefused) -> Result<Answer, AllocError>
+    ensures { IfOk result (λ a. view.TurnsDownEntry name.now why (view.answer a)) }
+{
+    match why {
+        PatchRefused::Entry(entry, why) => map_unsound(alloc, name, entry, why),
+        PatchRefused::Memory(e) => Err(e),
+    }
+}
+
+/// What is answered where bytes gave no patch.
+pub fn file_turned_down(alloc: Global, name: &str, why: FileRefused) -> Result<Answer, AllocError>
+    ensures { IfOk result (λ a. view.TurnsDownFile name.now why (view.answer a)) }
+{
+    match why {
+        FileRefused::At(at, why) => patch_refused(alloc, name, at, &why),
+        FileRefused::Memory(e) => Err(e),
+    }
 }

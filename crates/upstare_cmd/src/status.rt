@@ -6,7 +6,7 @@ ghost use Rattle.upstare_cmd.specs.Status as spec;
 use c_tree::End;
 
 /// How a call of the tool ended.
-#[derive(Clone, Copy, PartialEq, Eq, Debug)]
+#[derive(Clone, Copy, PartialEq, Eq)]
 pub enum Status {
     /// What the words ask for is done.
     Done,

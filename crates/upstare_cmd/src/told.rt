@@ -3,21 +3,21 @@
 ghost use Rattle.std.specs.Prelude.{◌≡◌, ◌∷◌, ◌++◌, IfOk, Some, codes};
 ghost use Rattle.c_places.specs.Limit.{KeepsLimit};
 ghost use Rattle.c_tree.specs.Link.{link_of};
-ghost use Rattle.refusals.specs.Words.{reason as words_of};
+ghost use Rattle.reports.specs.Words.{reason as words_of};
 ghost use Rattle.upstare_cmd.specs.Answer as meant;
-ghost use Rattle.upstare_cmd.specs.Command as spec;
+ghost use Rattle.upstare_cmd.specs.Meaning as meaning;
+ghost use Rattle.upstare_cmd.specs.Replies as replies;
 ghost use Rattle.upstare_cmd.specs.Update as updates;
 ghost use Rattle.upstare_cmd.specs.Views as view;
-ghost use Rattle.words.specs.Views as words_view;
+ghost use Rattle.command_line.specs.Views as words_view;
 ghost use Rattle.world_core.specs.History.{over};
 ghost use Rattle.world_core.specs.Refused.{named_at_refusal};
 
 use crate::answer::{Answer, Piece};
-use crate::line;
 use crate::status::status_of;
 use c_tree::{End, Event, Patch, Reason, Row, Text};
 use drive::history_text;
-use refusals::reason_words;
+use reports::{line, reason_words};
 use std::alloc::{AllocError, Global};
 use world_core::{Outcome, World};
 
@@ -28,7 +28,9 @@ fn pieces_of(
     history: Option<&str>,
     events: &[Event],
 ) -> Result<Row<Piece>, AllocError>
-    ensures { IfOk result (λ ps. view.pieces ps ≡ meant.ToOut output ∷ spec.kept (words_view.text history.entry) events.now) }
+    ensures { IfOk result
+        (λ ps. view.pieces ps ≡ meant.ToOut output ∷ replies.kept
+        (words_view.text history.entry) events.now) }
 {
     let mut pieces = Vec::new(alloc);
     pieces.push(Piece::Out(output))?;
@@ -55,7 +57,8 @@ fn refused_words(
 ) -> Result<Text, AllocError>
     requires { KeepsLimit patch.now.old }
     ensures { IfOk result (λ words. words ≡
-        codes "refused: " ++ words_of (link_of patch.now.old patch.now.new patch.now.entries) at reason) }
+        codes "refused: " ++ words_of (link_of patch.now.old patch.now.new patch.now.entries) at
+        reason) }
 {
     let mut words = text_of(alloc, b"refused: ")?;
     let reason = reason_words(alloc, patch, at, reason)?;
@@ -66,7 +69,8 @@ fn refused_words(
 /// The words of a refusal of a World's update.
 fn refusal_words(alloc: Global, world: &World, reason: Reason) -> Result<Text, AllocError>
     ensures { IfOk result (λ words. words ≡
-        codes "refused: " ++ updates.refusal_words world.now.settings.armed (named_at_refusal world.now) reason) }
+        codes "refused: " ++ updates.refusal_words world.now.settings.armed
+        (named_at_refusal world.now) reason) }
 {
     match world.patch() {
         Some(patch) => refused_words(alloc, patch, world.named_at_refusal(), reason),
@@ -95,7 +99,9 @@ pub fn told(
     history: Option<&str>,
 ) -> Result<Answer, AllocError>
     requires { over world.now ≡ Some end }
-    ensures { IfOk result (λ a. spec.Tells world.now.settings (words_view.text history.entry) world.now.events (view.answer a)) }
+    ensures { IfOk result
+        (λ a. meaning.Tells world.now.settings (words_view.text history.entry) world.now.events
+        (view.answer a)) }
 {
     let output = Text::from_vec(world.output().to_vec(alloc)?);
     let update = update_words(alloc, world)?;

@@ -76,10 +76,10 @@ refused_by x d e = or_true (r.is_memory x) (r.refuses x d) (ap (r.refuses x) e �
 pub refused_short : (x : Reason) (d : Result State Reason) → x ≡ why.Memory → (r.is_memory x || r.refuses x d) ≡ true
 refused_short x d e = ap (λ y. r.is_memory y || r.refuses y d) e
 
-pub next-Refuse : (k : Settings) (c : r.Core) (x : Reason) → r.over k c ≡ None → r.may_decide c ≡ true → (r.is_memory x || r.refuses x (r.decided k c)) ≡ true
+pub next-Refuse : (k : Settings) (c : r.Core) (x : Reason) → r.over k c ≡ None → r.may_decide c ≡ true → r.may_refuse k c x ≡ true
     → r.next k c (e.Refuse x) ≡ Some (record c { phase = phase.Refused x })
 unfolding r.next
-next-Refuse k c x o m d = while_none (r.over k c) _ o ∙ legal_true (r.may_decide c && (r.is_memory x || r.refuses x (r.decided k c))) _ (both (r.may_decide c) _ m d)
+next-Refuse k c x o m d = while_none (r.over k c) _ o ∙ legal_true (r.may_decide c && r.may_refuse k c x) _ (both (r.may_decide c) _ m d)
 
 -- what the tests say of the phase
 left : (a b : Bool) → (a && b) ≡ true → a ≡ true

@@ -15,14 +15,15 @@ use Rattle.c_tree.specs.declared.state.State.{State}
 use Rattle.c_tree.specs.declared.state.Trap.{Trap}
 use Rattle.c_tree.specs.Fillings.{code, filled, with_reason}
 use Rattle.c_tree.specs.Link.{Link, link_of, match_at}
-use Rattle.c_tree.specs.MapGlobals.{global_filling, global_scope, init_of, map_global, map_global_by, map_globals_from}
-use Rattle.c_tree.specs.MapHeap.{field_fillings, is_removed, map_object, map_object_to, map_objects, object_scope, removed}
+use Rattle.c_tree.specs.MapGlobals.{global_filling, global_view, init_of, map_global, map_global_by, map_globals_from}
+use Rattle.c_tree.specs.MapHeap.{field_fillings, is_removed, map_object, map_object_to, map_objects, object_view, removed}
 use Rattle.c_tree.specs.MapMutexes.{held}
-use Rattle.c_tree.specs.MapStack.{Part, frame_scope, frames_by, map_frame, map_frames, part_frames, parts_at, unmapped}
+use Rattle.c_tree.specs.Step.{view_of}
+use Rattle.c_tree.specs.MapStack.{Part, frames_by, map_frame, map_frames, part_frames, parts_at, unmapped}
 use Rattle.c_tree.specs.Refusal.{first_some, onward, unless_refused}
 use Rattle.c_tree.specs.Run.{is_memory}
 use Rattle.c_tree.specs.Update.{all_unmapped, failed_check, failed_checks, map_thread, map_threads, mapped_state, refusal, thread_unmapped, update}
-use Rattle.c_tree.specs.Value.{Scope, is_true, value}
+use Rattle.c_tree.specs.Value.{View, is_true, value}
 
 -- no answer is want of memory
 abbrev Names : {A : Type 0} → Result A Reason → Type 0
@@ -58,7 +59,7 @@ reason-names : {A : Type 0} (because : ℕ → Reason) (x : Result A Trap) → (
 reason-names because (Ok a) h = tt
 reason-names because (Err t) h = h (code t)
 
-filled-names : (x : Scope) (because : ℕ → ℕ → Reason) (i : ℕ) (es : List LExpr) → ((j c : ℕ) → is_memory (because j c) ≡ false) → Names (filled x because i es)
+filled-names : (x : View) (because : ℕ → ℕ → Reason) (i : ℕ) (es : List LExpr) → ((j c : ℕ) → is_memory (because j c) ≡ false) → Names (filled x because i es)
 filled-names x because i [] h = tt
 filled-names x because i (y ∷ rest) h =
     onward-names (with_reason (because i) (value x y)) _ (reason-names (because i) (value x y) (h i))
@@ -92,7 +93,7 @@ failed-names i (Err t) = refl
 
 checks-names : (s : State) (i : ℕ) (entries : List LEntry) → AllIn (failed_checks s i entries)
 checks-names s i [] = tt
-checks-names s i (n.Check x ∷ rest) = (failed-names i (value (global_scope s) x), checks-names s (i + 1) rest)
+checks-names s i (n.Check x ∷ rest) = (failed-names i (value (global_view s) x), checks-names s (i + 1) rest)
 checks-names s i (n.Match a b c ∷ rest) = checks-names s i rest
 checks-names s i (n.Field a b c ∷ rest) = checks-names s i rest
 checks-names s i (n.Init a b ∷ rest) = checks-names s i rest
@@ -109,7 +110,7 @@ refusal-names k entries s =
 global-names : (entries : List LEntry) (s : State) (g : ℕ) (x : LGlobal) (o count : Option ℕ) → Names (map_global_by entries s g x o count)
 global-names entries s g x o (Some c) = tt
 global-names entries s g x o None =
-    let y = value (global_scope s) (global_filling (first_some (map (init_of g) entries)) o x.init) in
+    let y = value (global_view s) (global_filling (first_some (map (init_of g) entries)) o x.init) in
     onward-names {A = ℤ} {B = List ℤ} (with_reason (λ c. why.Global g c) y) (λ v. Ok (v ∷ [])) (reason-names (λ c. why.Global g c) y (λ c. refl)) (λ v. tt)
 
 globals-names : (k : Link) (entries : List LEntry) (s : State) (g : ℕ) (xs : List LGlobal) → Names (map_globals_from k entries s g xs)
@@ -122,8 +123,8 @@ object_to-names : (k : Link) (entries : List LEntry) (s : State) (i : ℕ) (x : 
 object_to-names k entries s i x None = refl
 object_to-names k entries s i x (Some owner) =
     let es = field_fillings k entries x.owner owner in
-    onward-names {A = List ℤ} {B = Option Object} (filled (object_scope s x) (λ j c. why.Field i j c) 0 es) (λ vs. Ok (Some (record { owner = owner; fields = vs })))
-    (filled-names (object_scope s x) (λ j c. why.Field i j c) 0 es (λ j c. refl)) (λ vs. tt)
+    onward-names {A = List ℤ} {B = Option Object} (filled (object_view s x) (λ j c. why.Field i j c) 0 es) (λ vs. Ok (Some (record { owner = owner; fields = vs })))
+    (filled-names (object_view s x) (λ j c. why.Field i j c) 0 es (λ j c. refl)) (λ vs. tt)
 
 object-names : (k : Link) (entries : List LEntry) (s : State) (i : ℕ) (o : Option Object) → Names (map_object k entries s i o)
 object-names k entries s i None = tt
@@ -135,20 +136,20 @@ objects-names k entries s i (o ∷ rest) =
     onward-names (map_object k entries s i o) _ (object-names k entries s i o)
     (λ a. onward-names (map_objects k entries s (i + 1) rest) _ (objects-names k entries s (i + 1) rest) (λ bs. tt))
 
-parts-names : (x : Scope) (because : ℕ → ℕ → Reason) (i : ℕ) (ps : List Part) → ((j c : ℕ) → is_memory (because j c) ≡ false) → Names (part_frames x because i ps)
+parts-names : (x : View) (because : ℕ → ℕ → Reason) (i : ℕ) (ps : List Part) → ((j c : ℕ) → is_memory (because j c) ≡ false) → Names (part_frames x because i ps)
 parts-names x because i [] h = tt
 parts-names x because i (p ∷ rest) h =
     onward-names (filled x because i p.fillings) _ (filled-names x because i p.fillings h)
     (λ vs. onward-names (part_frames x because (i + length p.fillings) rest) _ (parts-names x because (i + length p.fillings) rest h) (λ fs. tt))
 
-frames_by-names : (o : Option (List Part)) (x : Scope) (t i : ℕ) → Names (frames_by o x t i)
+frames_by-names : (o : Option (List Part)) (x : View) (t i : ℕ) → Names (frames_by o x t i)
 frames_by-names None x t i = refl
 frames_by-names (Some ps) x t i = parts-names x (λ j c. why.Slot t i j c) 0 ps (λ j c. refl)
 
 frames-names : (k : Link) (entries : List LEntry) (s : State) (t i : ℕ) (fs : List Frame) → Names (map_frames k entries s t i fs)
 frames-names k entries s t i [] = tt
 frames-names k entries s t i (f ∷ rest) =
-    onward-names (map_frame k entries s t i f) _ (frames_by-names (parts_at k entries f.function f.place) (frame_scope s f) t i)
+    onward-names (map_frame k entries s t i f) _ (frames_by-names (parts_at k entries f.function f.place) (view_of s f) t i)
     (λ gs. onward-names (map_frames k entries s t (i + 1) rest) _ (frames-names k entries s t (i + 1) rest) (λ hs. tt))
 
 thread-names : (k : Link) (entries : List LEntry) (s : State) (t : ℕ) (o : Option (List Frame)) → Names (map_thread k entries s t o)

@@ -1,6 +1,7 @@
 -- The outcome of an update, and what it keeps.
 use Rattle.std.proofs.Common.{◌≡◌, ℕ, suc, ◌+◌, ◌^◌, ◌≤◌, ◌<◌, Bool, true, false, ◌&&◌, ◌||◌, List, [], ◌∷◌, ◌++◌, map, length, Option, Some, None, Result, Ok, Err, inl, inr, refl, ap, sym, subst, ◌∙◌, arith}
-use Rattle.std.specs.Prelude.{vec_len, vec_capacity}
+use Rattle.std.specs.Prelude.{is_some, vec_len, vec_capacity}
+use Rattle.c_tree.proofs.RunLemmas.{asked_is_armed}
 use Rattle.c_tree.specs.declared.event.Event.{Event}
 use Rattle.c_tree.specs.declared.event.EventKind.TheVariants as e
 use Rattle.c_tree.specs.declared.event.Reason.{Reason}
@@ -90,10 +91,22 @@ commit_room w h v s m =
     omega (arith, o, s.room)
 
 -- a refusal
-reason_legal : (w : Inside) (h : History) (x : Reason) → history_of w ≡ h → IsSound w → IsReason h x
+reason_given : (w : Inside) (h : History) (x : Reason) → history_of w ≡ h → IsSound w → IsReason h x
     → (r.is_memory x || r.refuses x (r.decided w.settings (now_of w))) ≡ true
-reason_legal w h x v s (inl e) = refused_by x (r.decided w.settings (now_of w)) (test_told (λ k c. r.decided k c) w h v s ∙ e)
-reason_legal w h x v s (inr e) = refused_short x (r.decided w.settings (now_of w)) e
+reason_given w h x v s (inl e) = refused_by x (r.decided w.settings (now_of w)) (test_told (λ k c. r.decided k c) w h v s ∙ e)
+reason_given w h x v s (inr e) = refused_short x (r.decided w.settings (now_of w)) e
+
+-- an update that was asked for is one of an armed run
+commit_armed : (w : Inside) (h : History) → history_of w ≡ h → IsSound w → may_commit h ≡ true → is_some w.settings.armed ≡ true
+commit_armed w h v s m = asked_is_armed w.settings w.events.items (now_of w) s.leads (ap (λ p. r.is_asked p) (commit_asked w h v s m))
+
+both_true : (a b : Bool) → a ≡ true → b ≡ true → (a && b) ≡ true
+both_true true b e f = f
+both_true false b e f = cc
+
+reason_legal : (w : Inside) (h : History) (x : Reason) → history_of w ≡ h → IsSound w → may_commit h ≡ true → IsReason h x → r.may_refuse w.settings (now_of w) x ≡ true
+reason_legal w h x v s m d =
+    both_true (is_some w.settings.armed) (r.is_memory x || r.refuses x (r.decided w.settings (now_of w))) (commit_armed w h v s m) (reason_given w h x v s d)
 
 refuse_program : (w w2 : Inside) (x : Reason) → w2.settings ≡ w.settings → w.here.phase ≡ phase.Asked → w2.here ≡ record w.here { phase = phase.Refused x } → program_of w2 ≡ program_of w
 refuse_program w w2 x a ph he =
@@ -102,7 +115,7 @@ refuse_program w w2 x a ph he =
 refuse_next : (w w2 : Inside) (h : History) (x : Reason) → history_of w ≡ h → IsSound w → may_commit h ≡ true → IsReason h x → w2.settings ≡ w.settings
     → w2.here ≡ record w.here { phase = phase.Refused x } → r.next w.settings (now_of w) (e.Refuse x) ≡ Some (now_of w2)
 refuse_next w w2 h x v s m d a he =
-    next-Refuse w.settings (now_of w) x (event_over w h (r.may_decide (core h)) v s m) (event_may (λ k c. r.may_decide c) w h v s m) (reason_legal w h x v s d)
+    next-Refuse w.settings (now_of w) x (event_over w h (r.may_decide (core h)) v s m) (event_may (λ k c. r.may_decide c) w h v s m) (reason_legal w h x v s m d)
     ∙ ap (λ c. let o : Option r.Core = Some c in o)
     (sym (ap (λ p. core_at p w2.here) (refuse_program w w2 x a (commit_asked w h v s m) he) ∙ ap (λ n. core_at (program_of w) n) he))
 
@@ -146,7 +159,7 @@ refused_to (Some y) b c d x h = cc
 -- a refusal leaves state and program
 refused_stays : (k : Settings) (c d : r.Core) (x : Reason) → r.next k c (e.Refuse x) ≡ Some d → (d.state ≡ c.state) × (d.program ≡ c.program)
 unfolding r.next
-refused_stays k c d x h = refused_to (r.over k c) (r.may_decide c && (r.is_memory x || r.refuses x (r.decided k c))) c d x h
+refused_stays k c d x h = refused_to (r.over k c) (r.may_decide c && r.may_refuse k c x) c d x h
 
 pub made_stays : (h h2 : History) (worker : ℕ) (d : Decision) (c : Committed) → c ≡ committed_of d → IsMade h h2 worker (kind_decided d) → Stays c (core h) (core h2)
 made_stays h h2 worker (decision.Updated parts new) c e m = subst (λ x. Stays x (core h) (core h2)) (sym e) tt

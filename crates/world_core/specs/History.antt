@@ -8,6 +8,7 @@ use Rattle.c_tree.specs.declared.run.End.{End}
 use Rattle.c_tree.specs.declared.run.Settings.{Settings}
 use Rattle.c_tree.specs.Run as r
 
+-- the settings of a run and its events so far
 pub record History : Type 0 where
   pub settings : Settings
   pub events : List Event
@@ -24,6 +25,7 @@ core h = unwrap_or (r.run h.settings h.events) (r.first h.settings)
 abbrev pub IsRun : History → Type 0
 IsRun h = r.run h.settings h.events ≡ Some (core h)
 
+-- how the run is over, if it is
 abbrev pub over : History → Option End
 over h = r.over h.settings (core h)
 
@@ -31,22 +33,27 @@ over h = r.over h.settings (core h)
 abbrev pub on : History → Bool → Bool
 on h b = not (is_some (over h)) && b
 
--- which events are legal now
+-- whether a Step of a thread is legal now
 abbrev pub may_turn : History → ℕ → Bool
 may_turn h t = on h (r.may_step h.settings (core h) t)
 
+-- whether a Request is legal now
 abbrev pub may_request : History → Bool
 may_request h = on h (r.is_due h.settings (core h))
 
+-- whether a thread may park now
 abbrev pub may_park : History → ℕ → Bool
 may_park h t = on h (r.may_park (core h) t)
 
+-- whether the update may be done or refused now
 abbrev pub may_commit : History → Bool
 may_commit h = on h (r.may_decide (core h))
 
+-- whether a thread may resume now
 abbrev pub may_resume : History → ℕ → Bool
 may_resume h t = on h (r.may_resume (core h) t)
 
+-- the history with one more event, which a worker made
 abbrev pub with_event : History → ℕ → EventKind → History
 with_event h worker kind = record h { events = h.events ++ (record { worker = worker; kind = kind }) ∷ [] }
 

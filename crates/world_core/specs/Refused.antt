@@ -58,6 +58,7 @@ named_in s (why.Global g c) = (0, 0)
 named_in s why.Memory = (0, 0)
 named_in s (why.Depth t) = (0, 0)
 
+-- what a refusal names in the core where it was made; zeroes where there is none
 abbrev pub place_named : Option (Core × Reason) → ℕ × ℕ
 place_named None = (0, 0)
 place_named (Some (c, r)) = named_in c.state r

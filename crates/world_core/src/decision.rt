@@ -4,21 +4,26 @@ ghost use Rattle.std.specs.Prelude.{◌≡◌, IfOk};
 ghost use Rattle.world_core.specs.Decision.{committed_of};
 
 use c_tree::{Places, Reason};
-use state_transform::{MapEnd, Parts};
+use stack_map::MapEnd;
+use state_transform::Parts;
 use std::alloc::AllocError;
 
 /// What was decided, before it is made: the parts and the places of the new state, or the reason
 /// against it.
 #[derive(Drop)]
 pub enum Decision {
+    /// The parts of the new state, and the places of the new program.
     Updated(Parts, Places),
+    /// The old program goes on, for this reason.
     Refused(Reason),
 }
 
 /// The outcome that was made.
 #[derive(Clone, Copy)]
 pub enum Committed {
+    /// The new program runs.
     Updated,
+    /// The old program goes on, for this reason.
     Refused(Reason),
 }
 

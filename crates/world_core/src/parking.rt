@@ -34,7 +34,8 @@ pub fn may_resume(program: &Lifted, now: &Now, t: u32) -> bool
 pub fn next_to_park(program: &Lifted, places: &Places, now: &Now) -> Option<u32>
     requires same { places.now.functions ≡ map layout.places program.now.functions }
     requires few { length now.now.state.threads ≤ 1000 }
-    ensures { let c = core_at program.now now.now in result ≡ find (run.may_park c) (run.threads c) }
+    ensures { let c = core_at program.now now.now in
+        result ≡ find (run.may_park c) (run.threads c) }
 {
     if !is_asked(now.phase) {
         return None;
@@ -51,7 +52,8 @@ pub fn next_to_park(program: &Lifted, places: &Places, now: &Now) -> Option<u32>
 /// The lowest parked thread that may be resumed. It looks at no thread where none is parked.
 pub fn next_to_resume(program: &Lifted, now: &Now) -> Option<u32>
     requires { length now.now.state.threads ≤ 1000 }
-    ensures { let c = core_at program.now now.now in result ≡ find (run.may_resume c) (run.threads c) }
+    ensures { let c = core_at program.now now.now in
+        result ≡ find (run.may_resume c) (run.threads c) }
 {
     if now.parked.is_empty() {
         return None;
@@ -76,7 +78,8 @@ fn is_live(state: &State, t: u32) -> bool
 
 /// Whether the thread is live and not parked.
 fn is_loose(now: &Now, t: u32) -> bool
-    ensures { result ≡ (step.is_live now.now.state t && not (list_any (λ u. u == t) now.now.parked.items)) }
+    ensures { result ≡ (step.is_live now.now.state t
+        && not (list_any (λ u. u == t) now.now.parked.items)) }
 {
     is_live(&now.state, t) && !is_parked(now.parked.as_slice(), t)
 }
@@ -100,7 +103,8 @@ pub fn may_decide(program: &Lifted, now: &Now) -> bool
 
 /// Adds a thread to those that are parked. Where memory is short all stays.
 pub fn park(now: &mut Now, t: u32) -> Result<(), AllocError>
-    ensures ok { OnOk result ((p : Lifted) → core_at p now.new ≡ record (core_at p now.old) { parked = t ∷ now.old.parked.items }) }
+    ensures ok { OnOk result ((p : Lifted) → core_at p now.new
+        ≡ record (core_at p now.old) { parked = t ∷ now.old.parked.items }) }
     ensures err { OnErr result ((p : Lifted) → core_at p now.new ≡ core_at p now.old) }
 {
     match now.parked.insert(0, t) {
@@ -111,7 +115,8 @@ pub fn park(now: &mut Now, t: u32) -> Result<(), AllocError>
 
 /// Takes a thread away from those that are parked.
 pub fn unpark(now: &mut Now, t: u32)
-    ensures { (p : Lifted) → core_at p now.new ≡ record (core_at p now.old) { parked = run.without t now.old.parked.items } }
+    ensures { (p : Lifted) → core_at p now.new
+        ≡ record (core_at p now.old) { parked = run.without t now.old.parked.items } }
 {
     now.parked.retain(|u| *u != t);
 }

@@ -26,7 +26,6 @@ use std::alloc::{AllocError, Global};
 use std::marker::Model;
 
 /// A run. Contracts see what it was given and its events.
-#[derive(Drop)]
 pub struct World {
     settings: Settings,
     places: Places,
@@ -34,6 +33,18 @@ pub struct World {
     here: Now,
     /// What the refusal of the update names, as it stood then.
     named: (u32, u32),
+}
+
+impl Drop for World {
+    fn drop(self) {
+        let World {
+            settings: _,
+            places: _,
+            events: _,
+            here: _,
+            named: _,
+        } = self;
+    }
 }
 
 impl Model for World {
@@ -166,7 +177,8 @@ impl World {
 
     /// The patch that is armed.
     pub fn patch(&self) -> Option<&Patch>
-        ensures value { option_map (λ p. p.now) result ≡ option_map (λ a. a.patch) self.now.settings.armed }
+        ensures value { option_map (λ p. p.now) result
+            ≡ option_map (λ a. a.patch) self.now.settings.armed }
         ensures sound { IfSome result (λ p. Sound p.now.old p.now.new p.now.entries) }
         ensures old_limit { IfSome result (λ p. KeepsLimit p.now.old) }
         ensures new_limit { IfSome result (λ p. KeepsLimit p.now.new) }
@@ -184,8 +196,9 @@ impl World {
         how_far(&self.settings.armed, self.here.phase)
     }
 
-    /// What the refusal of the update names, as it stood then: of a frame its function and its place,
-    /// of an object its struct and 0; zeroes where the reason names neither, or none was refused.
+    /// What the refusal of the update names, as it stood then: of a frame its function and its
+    /// place, of an object its struct and 0; zeroes where the reason names neither, or none was
+    /// refused.
     pub fn named_at_refusal(&self) -> (u32, u32)
         ensures { result ≡ named_at_refusal self.now }
     {
@@ -197,7 +210,13 @@ impl World {
         ensures value { result ≡ self.events }
         ensures legal { IsRun self }
     {
-        let World { events, .. } = self;
+        let World {
+            settings: _settings,
+            places: _places,
+            events,
+            here: _here,
+            named: _named,
+        } = self;
         Row::from_vec(events)
     }
 
@@ -206,7 +225,8 @@ impl World {
         requires { IsTrue (may_turn self.old t) }
         ensures ok { OnOk result (self.new ≡ with_event self.old worker (e.Step t)) }
         ensures made { OnOk result (IsMade self.old self.new worker (e.Step t)) }
-        ensures core { OnOk result (core self.new ≡ stepped (core self.old) t (step (core self.old).program t (core self.old).state)) }
+        ensures core { OnOk result (core self.new ≡ stepped (core self.old) t
+            (step (core self.old).program t (core self.old).state)) }
         ensures more { OnOk result ((core self.new).steps ≡ (core self.old).steps + 1) }
         ensures within { OnOk result ((core self.old).steps < self.old.settings.limit) }
         ensures err { OnErr result (self.new ≡ self.old) }

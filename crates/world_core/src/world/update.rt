@@ -12,7 +12,7 @@ use crate::decision::{Committed, Decision, committed_by, reason_of};
 use crate::named::named_in;
 use c_places::places;
 use c_tree::{Event, EventKind, Phase, Places, Reason};
-use state_transform::{Parts, put_parts, updated};
+use state_transform::{Parts, updated};
 use std::alloc::AllocError;
 
 impl World {
@@ -56,7 +56,7 @@ impl World {
         requires decided { IsUpdate self.old parts places }
         ensures { IsMade self.old self.new worker e.Update }
     {
-        put_parts(&mut self.here.state, parts);
+        parts.put_into(&mut self.here.state);
         self.here.phase = Phase::Updated;
         self.places = places;
         self.events.push_reserved(Event {
@@ -83,7 +83,8 @@ impl World {
     pub fn commit(&mut self, worker: u32) -> Committed
         requires { IsTrue (may_commit self.old) }
         ensures made { IsMade self.old self.new worker (kind_of result) }
-        ensures outcome { kind_of result ≡ plan.outcome self.old.settings (is_short result) (core self.old) }
+        ensures outcome { kind_of result
+            ≡ plan.outcome self.old.settings (is_short result) (core self.old) }
         ensures stays { Stays result (core self.old) (core self.new) }
     {
         let decision = match self.decide() {

@@ -14,8 +14,8 @@ loop-i-preserved c =
       seen = seen_more xs i x c.loop-i.seen c.in_ok-seen.seen c.loop-i-test.true c.index-names-i.is c.loop-i.invariant.seen c.in_ok-seen.ensures;
       bodies = bodies_more p xs i x c.loop-i.bodies c.in_ok-bodies.bodies c.loop-i-test.true c.index-names-i.is c.loop-i.invariant.bodies c.in_ok-bodies.ensures;
       faults = c.loop-i.invariant.faults
-          ∙ repeats_step p xs (take i xs) i x c.loop-i.seen c.loop-i.bodies _ c.place.result c.is_some-is_defined.result c.may_follow-may.result c.loop-i.first c.note_twice.new.first
-          c.loop-i-test.true c.index-names-i.is c.loop-i.invariant.seen c.loop-i.invariant.bodies refl c.at_place-other.ensures c.place.ensures c.is_some-is_defined.ensures
+          ∙ repeats_step p xs (take i xs) i x c.loop-i.seen c.loop-i.bodies _ c.number.result c.is_some-is_defined.result c.may_follow-may.result c.loop-i.first c.note_twice.new.first
+          c.loop-i-test.true c.index-names-i.is c.loop-i.invariant.seen c.loop-i.invariant.bodies refl c.at_number-other.ensures c.number.ensures c.is_some-is_defined.ensures
           c.may_follow-may.ensures c.in_ok-note_twice.ensures;
     }
 

@@ -3,7 +3,7 @@ use Rattle.std.specs.Prelude.{filter}
 use Rattle.c_tree.specs.Scope.{routine}
 use Rattle.c_tree.specs.Typing.{has_body}
 use Rattle.c_check.specs.Words.{noted}
-use Rattle.c_check.specs.Tables.{names_in}
+use Rattle.name_index.specs.Tables.{names_in}
 use Rattle.c_check.specs.Files.{repeats}
 use Rattle.c_check.proofs.repeats.repeated_names.Given as goal
 

@@ -11,7 +11,7 @@ use Rattle.c_lift.proofs.call.new_object.Goals as goal
 pub returns : goal.returns
 returns c =
     let name = c.args.name.now in
-    let number = struct_number c.args.at.now.setting.now.file.now.program.now name.it in
+    let number = struct_number c.args.at.now.setting.now.file.now name.it in
     took_temporary (e.Malloc name) [] c.args.made.now.items _ (ty.Ptr name.it) (λ k. s.New k number) c.in_ok-k.k refl (take-Malloc (around c.args.at.now) c.args.made.now.items name)
     (ap (λ n. Some (ty.Ptr n)) c.in_ok-clone.ensures.cases) refl (sym (append-nil c.args.calls.now.items)) refl (c.in_ok-clone-2.ensures.cases ∙ ap ty.Ptr c.in_ok-clone.ensures.cases) c.in_ok-k.ensures.slot c.in_ok-k.ensures.made
     (c.in_ok-add_call.ensures ∙ ap (λ n. c.args.calls.now.items ++ s.New c.in_ok-k.k n ∷ []) c.struct_number.ensures)

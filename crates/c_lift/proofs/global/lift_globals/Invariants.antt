@@ -5,4 +5,4 @@ use Rattle.c_tree.specs.Lifting.{lift_global}
 use Rattle.c_lift.proofs.global.lift_globals.Given as goal
 
 abbrev pub invariant-loop-global : goal.invariant-loop-global
-invariant-loop-global l = l.lifted.items ≡ map (lift_global (file_scope l.file.program.now)) (take l.global-index l.globals)
+invariant-loop-global l = l.lifted.items ≡ map (lift_global (file_scope l.file)) (take l.global-index l.globals)

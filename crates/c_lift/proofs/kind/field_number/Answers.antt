@@ -1,6 +1,6 @@
 use Rattle.std.proofs.Common.{sym, ap, ◌∙◌}
 use Rattle.std.specs.Prelude.{unwrap_or}
-use Rattle.c_lift.proofs.NumberLemmas.{number_of-map}
+use Rattle.lift_laws.proofs.NumberLemmas.{number_of-map}
 use Rattle.c_lift.proofs.kind.field_number.Goals as goal
 
 pub returns : goal.returns

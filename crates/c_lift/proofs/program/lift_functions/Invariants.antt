@@ -5,7 +5,7 @@ use Rattle.c_lift.proofs.program.lift_functions.Given as goal
 
 abbrev pub invariant-loop-function : goal.invariant-loop-function
 invariant-loop-function l =
-    let p = l.file.program.now in
+    let p = l.file in
     record {
       lifted : l.lifted.items ≡ map (lift_function p) (filter (λ f. is_some f.body) (take l.function-index l.functions));
       within : first_limit p (filter (λ f. is_some f.body) (drop l.function-index l.functions)) ≡ first_limit p (filter (λ f. is_some f.body) l.functions);

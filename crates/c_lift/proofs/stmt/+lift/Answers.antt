@@ -7,7 +7,7 @@ use Rattle.c_lift.specs.Adding.{Adds}
 use Rattle.c_lift.specs.Around.{standing}
 use Rattle.c_lift.proofs.OutcomeLemmas.{if_ok}
 use Rattle.c_lift.proofs.StmtLemmas.{lift-Empty, lift-Break, lift-Continue, lift-Return, lift-Assign, lift-Run, lift-Free, lift-Print, lifts_plain}
-use Rattle.c_lift.proofs.CompoundLemmas.{lifts_block, lifts_if, lifts_while, lifts_for, whole_more, whole_all}
+use Rattle.c_lift.proofs.CompoundLemmas.{lifts_as, lifts_block, lifts_if, lifts_while, lifts_for, whole_more, whole_all}
 use Rattle.c_lift.proofs.stmt.+lift.Goals as goal
 
 pub lift_all-loop-s-preserved : goal.lift_all-loop-s-preserved
@@ -25,31 +25,40 @@ lift_stmt-returns-in-Empty t c =
     lifts_plain s.Empty (lift_of [] c.args.made.now.items) c.in-Empty.is (lift-Empty w c.args.made.now.items c.args.s.now.at) refl refl
     (record { added = sym (append-nil c.args.body.now.items); all = refl })
 
-pub lift_stmt-returns-in_ok-lift_all-in-Block : goal.lift_stmt-returns-in_ok-lift_all-in-Block
-lift_stmt-returns-in_ok-lift_all-in-Block t c =
-    lifts_block {new = c.leave.new.locals} c.args.s.now.at c.as_slice.result.now (c.in-Block.is ∙ ap s.Block (sym c.as_slice.ensures)) c.in_ok-lift_all-in-Block.ensures (c.leave.ensures.names ∙ ap (λ n. take n c.lift_all.new.locals.names.items) c.scope_depth-names.ensures) c.leave.ensures.slots
+pub lift_stmt-returns-in-Block : goal.lift_stmt-returns-in-Block
+lift_stmt-returns-in-Block t c =
+    if_ok c.lift_block.result c.lift_block.ensures (λ _ all. lifts_as (s.Block c.as_slice.result.now) (c.in-Block.is ∙ ap s.Block (sym c.as_slice.ensures)) (all c.args.s.now.at))
 
 pub lift_stmt-returns-in_ok-no-in-If : goal.lift_stmt-returns-in_ok-no-in-If
 lift_stmt-returns-in_ok-no-in-If t c =
     if_ok c.add_if.result c.add_if.ensures
-    (λ _ added. lifts_if {new = c.leave-in-If.new.locals} c.args.s.now.at c.in-If.test c.get.result.now c.in-If.no (c.in-If.is ∙ ap (λ y. s.If c.in-If.test y c.in-If.no) (sym c.get.ensures))
-    c.in_ok-test-in-If.ensures c.in_ok-yes-in-If.ensures c.in_ok-no-in-If.ensures (c.leave-in-If.ensures.names ∙ ap (λ n. take n c.lift_other.new.locals.names.items) c.scope_depth-names.ensures) c.leave-in-If.ensures.slots added)
+    (λ _ added. lifts_if {new = c.leave.new.locals} c.args.s.now.at c.in-If.test c.get.result.now c.in-If.no (c.in-If.is ∙ ap (λ y. s.If c.in-If.test y c.in-If.no) (sym c.get.ensures))
+    c.in_ok-test-in-If.ensures c.in_ok-yes-in-If.ensures c.in_ok-no-in-If.ensures (c.leave.ensures.names ∙ ap (λ n. take n c.lift_other.new.locals.names.items) c.scope_depth-names.ensures) c.leave.ensures.slots added)
 
-pub lift_stmt-returns-in_ok-inner-in-While : goal.lift_stmt-returns-in_ok-inner-in-While
-lift_stmt-returns-in_ok-inner-in-While t c =
-    if_ok c.add_loop.result c.add_loop.ensures
-    (λ _ added. lifts_while {new = c.leave-in-While.new.locals} c.args.s.now.at c.in-While.test c.get-in-While.result.now (c.in-While.is ∙ ap (s.While c.in-While.test) (sym c.get-in-While.ensures))
-    c.in_ok-test-in-While.ensures.calls c.in_ok-test-in-While.ensures.value c.in_ok-test-in-While.ensures.made c.in_ok-inner-in-While.ensures (c.leave-in-While.ensures.names ∙ ap (λ n. take n c.lift_apart-in-While.new.locals.names.items) c.scope_depth-names.ensures) c.leave-in-While.ensures.slots
-    (added ∙ ap (λ xs. c.args.body.now.items ++ out.Loop c.in_ok-test-in-While.test.calls.items c.in_ok-test-in-While.test.value c.in_ok-inner-in-While.inner.items xs ∷ []) c.new.ensures.items))
+pub lift_stmt-returns-in-While : goal.lift_stmt-returns-in-While
+lift_stmt-returns-in-While t c =
+    if_ok c.lift_while.result c.lift_while.ensures
+    (λ _ all. lifts_as (s.While c.in-While.test c.get-in-While.result.now) (c.in-While.is ∙ ap (s.While c.in-While.test) (sym c.get-in-While.ensures)) (all c.args.s.now.at))
 
 pub lift_stmt-returns-in_ok-inner-in-For : goal.lift_stmt-returns-in_ok-inner-in-For
 lift_stmt-returns-in_ok-inner-in-For t c =
     let b = c.get-in-For.result.now in
-    if_ok c.add_loop-in-For.result c.add_loop-in-For.ensures
+    if_ok c.add_loop.result c.add_loop.ensures
     (λ _ added. lifts_for {new = c.leave-in-For.new.locals} c.args.s.now.at c.as_slice-in-For.result.now c.in-For.test c.in-For.step b
     (c.in-For.is ∙ (ap (λ xs. s.For xs c.in-For.test c.in-For.step c.in-For.inner) (sym c.as_slice-in-For.ensures) ∙ ap (s.For c.as_slice-in-For.result.now c.in-For.test c.in-For.step) (sym c.get-in-For.ensures)))
     c.in_ok-lift_all-in-For.ensures c.in_ok-test-in-For.ensures.calls c.in_ok-test-in-For.ensures.value c.in_ok-test-in-For.ensures.made
     c.in_ok-step-in-For.ensures.adds c.in_ok-step-in-For.ensures.names c.in_ok-step-in-For.ensures.slots c.in_ok-inner-in-For.ensures (c.leave-in-For.ensures.names ∙ ap (λ n. take n c.lift_apart-in-For.new.locals.names.items) c.scope_depth-names.ensures) c.leave-in-For.ensures.slots added)
+
+pub lift_block-returns : goal.lift_block-returns
+lift_block-returns t c = λ at.
+    lifts_block {new = c.leave.new.locals} at c.args.inner.now refl c.in_ok-lift_all.ensures (c.leave.ensures.names ∙ ap (λ n. take n c.lift_all.new.locals.names.items) c.scope_depth-names.ensures) c.leave.ensures.slots
+
+pub lift_while-returns : goal.lift_while-returns
+lift_while-returns t c =
+    if_ok c.add_loop.result c.add_loop.ensures
+    (λ _ added. λ at. lifts_while {new = c.leave.new.locals} at c.args.test.now c.args.inner.now refl
+    c.in_ok-test.ensures.calls c.in_ok-test.ensures.value c.in_ok-test.ensures.made c.in_ok-inner.ensures (c.leave.ensures.names ∙ ap (λ n. take n c.lift_apart.new.locals.names.items) c.scope_depth-names.ensures) c.leave.ensures.slots
+    (added ∙ ap (λ xs. c.args.body.now.items ++ out.Loop c.in_ok-test.test.calls.items c.in_ok-test.test.value c.in_ok-inner.inner.items xs ∷ []) c.new.ensures.items))
 
 pub lift_stmt-returns-in-Break : goal.lift_stmt-returns-in-Break
 lift_stmt-returns-in-Break t c =

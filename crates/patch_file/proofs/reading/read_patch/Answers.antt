@@ -1,9 +1,9 @@
 use Rattle.std.proofs.Common.{◌≡◌, ◌∙◌, ℕ, Err, ap, subst, arith}
 use Rattle.std.specs.Prelude.{Result}
 use Rattle.c_tree.specs.declared.cause.FileCause.TheVariants as cause
-use Rattle.patch_frame.specs.declared.fault.FrameFault.{FrameFault}
-use Rattle.patch_frame.specs.declared.fault.FrameFault.TheVariants as fault
-use Rattle.patch_frame.specs.declared.frame.Frame.{Frame}
+use Rattle.patch_form.specs.declared.fault.FrameFault.{FrameFault}
+use Rattle.patch_form.specs.declared.fault.FrameFault.TheVariants as fault
+use Rattle.patch_form.specs.declared.frame.Frame.{Frame}
 use Rattle.patch_file.specs.Refusal.{IsAt}
 use Rattle.patch_file.proofs.Files.{answered, refused_head}
 use Rattle.patch_file.proofs.reading.read_patch.Goals as goal

@@ -1,6 +1,6 @@
 use Rattle.std.proofs.Common.{◌≡◌, subst}
 use Rattle.std.specs.Prelude.{MatchResult, Ok}
-use Rattle.fillings.specs.Refusal.{IsRefusal}
+use Rattle.stack_map.specs.Refusal.{IsRefusal}
 use Rattle.state_transform.proofs.StructLemmas.{goes_to}
 use Rattle.state_transform.proofs.heap.map_live.Goals as goal
 

@@ -1,6 +1,6 @@
 use Rattle.std.proofs.Common.{◌≡◌, subst, sym}
 use Rattle.std.specs.Prelude.{MatchResult, Ok}
-use Rattle.fillings.specs.Refusal.{IsRefusal}
+use Rattle.stack_map.specs.Refusal.{IsRefusal}
 use Rattle.state_transform.specs.Parts.{with_parts}
 use Rattle.state_transform.specs.Whole.{IsWhole}
 use Rattle.state_transform.proofs.LinkLemmas.{linked}

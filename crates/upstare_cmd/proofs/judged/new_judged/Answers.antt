@@ -1,4 +1,5 @@
-use Rattle.upstare_cmd.specs.Command as spec
+use Rattle.upstare_cmd.specs.Meaning as meaning
+use Rattle.upstare_cmd.specs.Parts as parts
 use Rattle.upstare_cmd.specs.Views as view
 use Rattle.upstare_cmd.proofs.Judging.{of_new}
 use Rattle.upstare_cmd.proofs.Refusing.{judged}
@@ -13,5 +14,5 @@ pub returns-in_ok-turned_down-in-Err : goal.returns-in_ok-turned_down-in-Err
 returns-in_ok-turned_down-in-Err c =
     let names = view.names c.args.names.now in
     judged names.new c.args.new_text.now
-    (λ a q. spec.OfMapping names.map c.args.map_text.now (λ m. view.TurnsDownEntries names.map (spec.entries_of c.args.old q m) a) a)
+    (λ a q. parts.OfMapping names.map c.args.map_text.now (λ m. view.TurnsDownEntries names.map (meaning.entries_of c.args.old q m) a) a)
     c.in-Err.why (view.answer c.in_ok-turned_down-in-Err.field-0) c.in-Err.ensures.verdict c.in_ok-turned_down-in-Err.ensures

@@ -1,4 +1,5 @@
-use Rattle.upstare_cmd.specs.Command as spec
+use Rattle.upstare_cmd.specs.Meaning as meaning
+use Rattle.upstare_cmd.specs.Parts as parts
 use Rattle.upstare_cmd.specs.Views as view
 use Rattle.upstare_cmd.proofs.Judging.{of_old}
 use Rattle.upstare_cmd.proofs.Refusing.{judged}
@@ -13,6 +14,6 @@ pub returns-in_ok-turned_down-in-Err : goal.returns-in_ok-turned_down-in-Err
 returns-in_ok-turned_down-in-Err c =
     let names = view.names c.args.names.now in
     judged names.old c.args.old_text.now
-    (λ a p. spec.OfSource names.new c.args.new_text.now
-    (λ q. spec.OfMapping names.map c.args.map_text.now (λ m. view.TurnsDownEntries names.map (spec.entries_of p q m) a) a) a)
+    (λ a p. parts.OfSource names.new c.args.new_text.now
+    (λ q. parts.OfMapping names.map c.args.map_text.now (λ m. view.TurnsDownEntries names.map (meaning.entries_of p q m) a) a) a)
     c.in-Err.why (view.answer c.in_ok-turned_down-in-Err.field-0) c.in-Err.ensures.verdict c.in_ok-turned_down-in-Err.ensures

@@ -1,5 +1,5 @@
 use Rattle.std.proofs.Common.{arith}
-use Rattle.words.specs.Views as words_view
+use Rattle.command_line.specs.Views as words_view
 use Rattle.upstare_cmd.proofs.Patching.{means_three}
 use Rattle.upstare_cmd.proofs.patch.patch_meant.Goals as goal
 

@@ -1,8 +1,8 @@
 use Rattle.std.proofs.Common.{◌≡◌}
 use Rattle.c_tree.specs.Points.{points}
-use Rattle.upstare_cmd.specs.Command as spec
+use Rattle.upstare_cmd.specs.Replies as replies
 use Rattle.upstare_cmd.proofs.Refusing.{turned_down}
 use Rattle.upstare_cmd.proofs.points.points_meant.Goals as goal
 
 pub returns-in-Err : goal.returns-in-Err
-returns-in-Err c = turned_down _ _ (λ a p. a ≡ spec.prints (points p)) _ _ c.in-Err.ensures.verdict c.turned_down.ensures
+returns-in-Err c = turned_down _ _ (λ a p. a ≡ replies.prints (points p)) _ _ c.in-Err.ensures.verdict c.turned_down.ensures

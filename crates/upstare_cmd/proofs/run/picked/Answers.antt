@@ -1,4 +1,4 @@
-use Rattle.words.specs.Views as words_view
+use Rattle.command_line.specs.Views as words_view
 use Rattle.upstare_cmd.proofs.Running.{told_of_picked}
 use Rattle.upstare_cmd.proofs.run.picked.Goals as goal
 use Rattle.std.proofs.Common.{subst}

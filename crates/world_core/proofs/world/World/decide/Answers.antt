@@ -1,6 +1,6 @@
 use Rattle.std.proofs.Common.{rules, subst}
 use Rattle.c_tree.specs.Update.{update}
-use Rattle.state_transform.specs.Refusal.{IsRefusal}
+use Rattle.stack_map.specs.Refusal.{IsRefusal}
 use Rattle.world_core.proofs.ReasonLemmas.{not_memory}
 use Rattle.world_core.proofs.UpdateLemmas.{decide_refused, decide_updated, patch_placed}
 use Rattle.world_core.proofs.world.World.decide.Goals as goal

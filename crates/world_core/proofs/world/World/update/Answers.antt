@@ -10,10 +10,10 @@ push_reserved-requires c = commit_room c.self.inside c.args.self.now c.self.view
 pub invariant_of-self : goal.invariant_of-self
 invariant_of-self c =
     update_sound c.self.inside _ c.args.self.now c.args.worker c.args.parts c.args.places c.self.view_is c.self.invariant c.requires.may c.requires.decided refl refl refl
-    c.push_reserved.ensures.items (ap (λ s. let n : Now = record c.self.inside.here { state = s; phase = Updated } in n) c.put_parts.ensures)
+    c.push_reserved.ensures.items (ap (λ s. let n : Now = record c.self.inside.here { state = s; phase = Updated } in n) c.put_into.ensures)
     c.push_reserved.ensures.len c.push_reserved.ensures.capacity
 
 pub returns : goal.returns
 returns c =
     update_made c.self.inside _ c.args.self.now _ c.args.worker c.args.parts c.args.places c.self.view_is c.self.invariant c.requires.may c.requires.decided refl (invariant_of-self c) refl
-    c.push_reserved.ensures.items (ap (λ s. let n : Now = record c.self.inside.here { state = s; phase = Updated } in n) c.put_parts.ensures)
+    c.push_reserved.ensures.items (ap (λ s. let n : Now = record c.self.inside.here { state = s; phase = Updated } in n) c.put_into.ensures)

@@ -1,5 +1,0 @@
-use Rattle.c_check.proofs.FoundLemmas.{named_is}
-use Rattle.c_check.proofs.file.File.named.Goals as goal
-
-pub returns : goal.returns
-returns c = named_is c.args.self.now c.self.inside.program.now _ _ _ _ _ c.args.name.now c.as_slice.result.now _ c.self.view_is c.self.invariant c.as_slice.ensures.value c.at_place.ensures

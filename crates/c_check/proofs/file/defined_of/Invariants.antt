@@ -1,7 +1,0 @@
-use Rattle.std.proofs.Common.{◌≡◌, take}
-use Rattle.std.specs.Prelude.{filter, is_some}
-use Rattle.c_check.specs.Tables.{function_names}
-use Rattle.c_check.proofs.file.defined_of.Given as goal
-
-abbrev pub invariant-loop-function : goal.invariant-loop-function
-invariant-loop-function l = l.names ≡ function_names (filter (λ f. is_some f.body) (take l.function-index l.functions))

@@ -1,6 +1,0 @@
-use Rattle.std.proofs.Common.{◌≡◌, take}
-use Rattle.c_check.specs.Tables.{names_in}
-use Rattle.c_check.proofs.file.places_of.Given as goal
-
-abbrev pub invariant-loop-named : goal.invariant-loop-named
-invariant-loop-named l = l.places ≡ names_in (take l.named-index l.names)

@@ -1,4 +1,0 @@
-pub mod After
-pub mod EntryLemmas
-pub mod SubjectLemmas
-pub mod CarryLemmas

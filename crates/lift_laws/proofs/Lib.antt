@@ -1,0 +1,16 @@
+pub mod NoFaults
+pub mod LimitLemmas
+pub mod ApartLemmas
+pub mod NamesLemmas
+pub mod NumberLemmas
+pub mod ArgumentLemmas
+pub mod FormedLemmas
+pub mod KeptLemmas
+pub mod SlotLemmas
+pub mod ValueSorts
+pub mod CallSorts
+pub mod ExprSorts
+pub mod StoreSorts
+pub mod StmtSorts
+pub mod FormSorts
+pub mod Formed

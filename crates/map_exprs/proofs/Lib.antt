@@ -1,2 +1,0 @@
-pub mod LiftLemmas
-pub mod TypeLemmas

@@ -1,4 +1,0 @@
--- what the public contracts rest on
-pub mod Typed
--- what the inner functions promise each other
-pub mod Forms

@@ -1,0 +1,5 @@
+pub mod NumberLemmas
+pub mod NameLemmas
+pub mod SortLemmas
+pub mod FoundLemmas
+pub mod MeaningLemmas

@@ -1,5 +1,0 @@
-use Rattle.patch_frame.proofs.Numbers.{is_decimal}
-use Rattle.patch_frame.proofs.laws.lengths_are_decimal.Goals as goal
-
-pub returns : goal.returns
-returns c = is_decimal

@@ -1,3 +1,0 @@
-pub mod SameLemmas
-pub mod StmtLemmas
-pub mod BodyLemmas

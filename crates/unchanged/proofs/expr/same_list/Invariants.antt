@@ -1,7 +1,0 @@
-use Rattle.std.proofs.Common.{◌≡◌, drop}
-use Rattle.c_tree.specs.Same as spec
-use Rattle.unchanged.proofs.expr.same_list.Given as goal
-
--- what is left decides
-abbrev pub invariant-loop-i : goal.invariant-loop-i
-invariant-loop-i l = spec.same_list l.k l.a l.b ≡ spec.same_list l.k (drop l.i l.a) (drop l.i l.b)

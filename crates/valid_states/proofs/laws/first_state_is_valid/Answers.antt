@@ -1,5 +1,0 @@
-use Rattle.valid_states.proofs.First.{start_is_valid}
-use Rattle.valid_states.proofs.laws.first_state_is_valid.Goals as goal
-
-pub returns : goal.returns
-returns c = start_is_valid

@@ -1,5 +1,0 @@
-use Rattle.valid_states.proofs.UnchangedPlaces.{update_is_valid}
-use Rattle.valid_states.proofs.laws.updates_stay_valid.Goals as goal
-
-pub returns : goal.returns
-returns c = update_is_valid

@@ -1,5 +1,0 @@
-use Rattle.valid_states.proofs.WholeRuns.{whole_run_is_valid}
-use Rattle.valid_states.proofs.laws.whole_runs_stay_valid.Goals as goal
-
-pub returns : goal.returns
-returns c = whole_run_is_valid

@@ -1,5 +1,0 @@
-use Rattle.words.proofs.LawLemmas.{command_is_fair}
-use Rattle.words.proofs.laws.command_is_fair_law.Goals as goal
-
-pub returns : goal.returns
-returns c = command_is_fair
