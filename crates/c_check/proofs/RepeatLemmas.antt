@@ -12,7 +12,7 @@ use Rattle.c_tree.specs.Fault.{fault, unless}
 use Rattle.c_tree.specs.Scope.{has_name, routine}
 use Rattle.c_tree.specs.Typing.{has_body}
 use Rattle.c_tree.specs.Names.{find_name}
-use Rattle.name_index.specs.Numbers.{item_at}
+use Rattle.c_tree.specs.Numbers.{item_at}
 use Rattle.name_index.specs.Tables.{names_in}
 use Rattle.c_check.specs.Words.{noted}
 use Rattle.c_check.specs.Files.{repeats, may_stand}

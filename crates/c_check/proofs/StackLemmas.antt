@@ -9,7 +9,7 @@ use Rattle.std.proofs.lemmas.Bool.{leb-true, leb-false}
 use Rattle.c_tree.specs.declared.scope.Named.{Named}
 use Rattle.c_tree.specs.Scope.{has_name, is_same_name}
 use Rattle.c_check.specs.declared.locals.Entry.{Entry}
-use Rattle.name_index.specs.Numbers.{item_at}
+use Rattle.c_tree.specs.Numbers.{item_at}
 use Rattle.c_check.specs.Stack.{Heights, height, height_at, is_at_least, named_by, KnowBefore, IsStackOf}
 use Rattle.name_index.proofs.FoundLemmas.{is_same_name-comm}
 

@@ -9,9 +9,9 @@ ghost use Rattle.c_check.specs.Words.{noted, lvalued, started, locked};
 
 use crate::locals::Locals;
 use crate::note::{note, note_known, note_unless};
-use crate::scope::{meaning, routine};
+use crate::scope::meaning;
 use c_tree::{At, CheckCause, Expr, ExprKind, Fault, Field, Function, Meaning, Name, Ty};
-use name_index::File;
+use name_index::{File, routine};
 use std::alloc::AllocError;
 
 /// Whether a name is `main`.
@@ -60,7 +60,7 @@ pub fn note_start(
     ensures { OnOk result (first.new ≡ noted first.old
         (started (around file.now locals.now) name.now)) }
 {
-    match routine(file, meaning(file, locals, &name.it)) {
+    match routine(file.program(), meaning(file, locals, &name.it)) {
         None => note(first, name.at, CheckCause::Unknown(name.it.clone()?)),
         Some(function) => {
             note_known(first, file.is_defined(&name.it), name.at, &name.it)?;

@@ -12,8 +12,8 @@ ghost use Rattle.c_check.specs.Files.{seconds, of_fields, of_struct, of_structs,
 
 use crate::note::{note_twice, note_unless};
 use crate::structs::note_type;
-use c_tree::{At, Fault, Field, Name, Struct};
-use name_index::{File, Index};
+use c_tree::{At, Fault, Field, Index, Name, Struct};
+use name_index::File;
 use std::alloc::{AllocError, Global};
 
 /// Notes a name that stands a second time, and adds it to those before.

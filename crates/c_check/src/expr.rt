@@ -9,11 +9,11 @@ ghost use Rattle.c_check.specs.Words.{noted, typed, found, valued, fitted, sided
 use crate::calls::{lock, note_call, note_lvalue, note_start};
 use crate::locals::Locals;
 use crate::note::{ask, note, note_unless};
-use crate::scope::{element_of, is_zero, meaning, routine, value_of_name};
+use crate::scope::{element_of, is_zero, meaning, value_of_name};
 use crate::structs::{field_of, note_type, object_of};
 use crate::types::{Operand, Test, may_fit, may_pass, takes, test_of};
 use c_tree::{At, BinOp, CheckCause, Expr, ExprKind, Fault, Field, Name, Ty};
-use name_index::File;
+use name_index::{File, routine};
 use std::alloc::AllocError;
 
 /// The type of an expression. Its faults are noted, but for what is asked of its value.
@@ -205,7 +205,7 @@ fn call(
     ensures faults { OnOk result (first.new ≡ noted first.old
         (found (around file.now locals.now) at (ExprKind.Call name.now args.now))) }
 {
-    match routine(file, meaning(file, locals, name)) {
+    match routine(file.program(), meaning(file, locals, name)) {
         None => {
             note(first, at, CheckCause::Unknown(name.clone()?));
             all_arguments(args, &[], file, locals, first)?;

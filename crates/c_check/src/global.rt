@@ -13,7 +13,7 @@ use crate::structs::note_type;
 use c_tree::{
     At, CheckCause, Const, Count, Define, Fault, GlobalDecl, LimitKind, Meaning, Name, Ty,
 };
-use name_index::File;
+use name_index::{File, length_of_array};
 use std::alloc::AllocError;
 
 /// The longest array, in words.
@@ -78,13 +78,6 @@ fn global(
     Ok(())
 }
 
-/// A number that is not below 0, and else 0.
-fn magnitude(minus: bool, n: i32) -> u32
-    ensures { result ≡ typing.magnitude minus n }
-{
-    if minus || n < 0 { 0 } else { n as u32 }
-}
-
 /// The words that a global takes. An array whose length is unknown takes one.
 #[tactic(auto, unfolding(crate::specs::Files::size_of))]
 fn size(count: &Option<At<Count>>, file: &File<'_>) -> u32
@@ -92,19 +85,7 @@ fn size(count: &Option<At<Count>>, file: &File<'_>) -> u32
 {
     match count {
         None => 1,
-        Some(count) => length(&count.it, file),
-    }
-}
-
-fn length(count: &Count, file: &File<'_>) -> u32
-    ensures { result ≡ typing.length_of_array (scope.file_scope file.now) count.now }
-{
-    match count {
-        Count::Number(n) => magnitude(false, *n),
-        Count::Named(name) => match file.define(file.meaning(name)) {
-            None => 1,
-            Some(define) => magnitude(define.minus, define.value),
-        },
+        Some(count) => length_of_array(file, &count.it),
     }
 }
 

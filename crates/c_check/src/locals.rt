@@ -202,7 +202,7 @@ impl Locals {
     }
 }
 
-ghost use Rattle.name_index.specs.Numbers.{item_at};
+ghost use Rattle.c_tree.specs.Numbers.{item_at};
 ghost use Rattle.c_check.specs.Stack.{height_at, is_at_least};
 
 /// Whether there is a place, and it is not before `start`.

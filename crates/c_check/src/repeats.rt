@@ -10,9 +10,8 @@ ghost use Rattle.c_check.specs.Words.{noted};
 ghost use Rattle.c_check.specs.Files.{repeats, may_stand};
 
 use crate::note::note_twice;
-use crate::scope::routine;
-use c_tree::{Fault, Field, Function, Named};
-use name_index::{File, Index, at_number};
+use c_tree::{Fault, Field, Function, Index, Named, at_number};
+use name_index::{File, routine};
 use std::alloc::{AllocError, Global};
 
 fn are_same_types(a: &[Field], b: &[Field]) -> bool
@@ -65,8 +64,8 @@ fn may_follow(other: Option<&Named>, x: &Named, is_defined: bool, file: &File<'_
     match other {
         None => true,
         Some(y) => {
-            let function = routine(file, x.meaning);
-            agree(routine(file, y.meaning), function) && !(has_body(function) && is_defined)
+            let function = routine(file.program(), x.meaning);
+            agree(routine(file.program(), y.meaning), function) && !(has_body(function) && is_defined)
         }
     }
 }
@@ -76,7 +75,7 @@ fn with_body(bodies: Index, x: &Named, file: &File<'_>) -> Result<Index, AllocEr
     ensures { IfOk result (λ s. s ≡ (if typing.has_body (scope.routine file.now x.now.meaning) then
         bodies ++ x.now.name ∷ [] else bodies)) }
 {
-    if has_body(routine(file, x.meaning)) {
+    if has_body(routine(file.program(), x.meaning)) {
         bodies.with(&x.name)
     } else {
         Ok(bodies)

@@ -11,9 +11,9 @@ ghost use Rattle.c_check.specs.Words.{noted, typed, found, element, indexed};
 use crate::locals::Locals;
 use crate::note::note;
 use c_tree::{
-    CheckCause, Define, Expr, ExprKind, Fault, Function, GlobalDecl, Meaning, Name, Program, Ty,
+    CheckCause, Expr, ExprKind, Fault, GlobalDecl, Meaning, Name, Program, Ty,
 };
-use name_index::File;
+use name_index::{File, element_type, is_zero_define, is_zero_number};
 use std::alloc::AllocError;
 
 /// What a name stands for.
@@ -23,31 +23,6 @@ pub fn meaning(file: &File<'_>, locals: &Locals, name: &Name) -> Meaning
     match locals.nearest(name) {
         Some(what) => what,
         None => file.meaning(name),
-    }
-}
-
-/// The function that a name stands for.
-pub fn routine<'a>(file: &File<'a>, what: Meaning) -> Option<&'a Function>
-    ensures { option_copied result ≡ spec.routine file.now what }
-{
-    match what {
-        Meaning::Routine(i) => file.program().functions.as_slice().get(i as usize),
-        _ => None,
-    }
-}
-
-fn is_zero_number(n: i32) -> bool
-    ensures { result ≡ types.is_zero_number n }
-{
-    n == 0
-}
-
-fn is_zero_define(define: Option<&Define>) -> bool
-    ensures { result ≡ types.is_zero_define (option_copied define.entry) }
-{
-    match define {
-        Some(define) => !define.minus && is_zero_number(define.value),
-        None => false,
     }
 }
 
@@ -82,22 +57,6 @@ fn name_type(file: &File<'_>, locals: &Locals, what: Meaning) -> Result<Option<T
                 Ok(None)
             } else {
                 Ok(Some(global.ty.clone()?))
-            },
-            None => Ok(None),
-        },
-        _ => Ok(None),
-    }
-}
-
-fn element_type(program: &Program, what: Meaning) -> Result<Option<Ty>, AllocError>
-    ensures { IfOk result (λ t. t ≡ types.element_type program.now what) }
-{
-    match what {
-        Meaning::Global(i) => match global(program, i) {
-            Some(global) => if global.count.is_some() {
-                Ok(Some(global.ty.clone()?))
-            } else {
-                Ok(None)
             },
             None => Ok(None),
         },

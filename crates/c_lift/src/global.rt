@@ -3,13 +3,12 @@
 ghost use Rattle.std.specs.Prelude.{◌≡◌, map, IfOk};
 ghost use Rattle.c_tree.specs.Scope as spec;
 ghost use Rattle.std.specs.Option.{option_copied};
-ghost use Rattle.c_tree.specs.Typing as typing;
 ghost use Rattle.c_tree.specs.Lifting as lifting;
 
 use c_tree::{
     At, Const, Count, Define, Field, GlobalDecl, LGlobal, LStruct, Name, Row, Slot, Struct,
 };
-use name_index::File;
+use name_index::{File, length_of_array};
 use std::alloc::{AllocError, Global};
 
 fn signed(minus: bool, n: i32) -> i32
@@ -25,21 +24,6 @@ fn value_of(define: Option<&Define>) -> i32
     match define {
         Some(define) => signed(define.minus, define.value),
         None => 0,
-    }
-}
-
-fn magnitude(minus: bool, n: i32) -> u32
-    ensures { result ≡ typing.magnitude minus n }
-{
-    if minus || n < 0 { 0 } else { n as u32 }
-}
-
-fn named_length(define: Option<&Define>) -> u32
-    ensures { result ≡ typing.named_length (option_copied define.entry) }
-{
-    match define {
-        Some(define) => magnitude(define.minus, define.value),
-        None => 1,
     }
 }
 
@@ -59,15 +43,6 @@ fn start_of(file: &File, init: &Option<At<Const>>) -> i32
     match init {
         Some(init) => first_value(file, &init.it),
         None => 0,
-    }
-}
-
-fn length_of_array(file: &File, count: &Count) -> u32
-    ensures { result ≡ typing.length_of_array (spec.file_scope file.now) count.now }
-{
-    match count {
-        Count::Number(n) => magnitude(false, *n),
-        Count::Named(name) => named_length(file.define(file.meaning(name))),
     }
 }
 

@@ -10,7 +10,7 @@ ghost use Rattle.c_tree.specs.Lifting as lifting;
 ghost use Rattle.c_tree.specs.declared.scope.Named.{Named};
 ghost use Rattle.c_lift.specs.Around.{scope_in};
 
-use c_tree::{Define, Field, Function, Meaning, Name, Program, Ty, narrowed};
+use c_tree::{Field, Function, Meaning, Name, Program, Ty, narrowed};
 use std::alloc::AllocError;
 
 /// Whether a type can be told and is a pointer's.
@@ -58,29 +58,6 @@ pub fn name_type(program: &Program, slots: &[Ty], what: Meaning) -> Result<Optio
     }
 }
 
-/// The type of an array's elements.
-pub fn element_type(program: &Program, what: Meaning) -> Result<Option<Ty>, AllocError>
-    ensures { IfOk result (λ t. t ≡ types.element_type program.now what) }
-{
-    match what {
-        Meaning::Global(i) => match program.globals.as_slice().get(i as usize) {
-            Some(global) => type_where(&global.ty, global.count.is_some()),
-            None => Ok(None),
-        },
-        _ => Ok(None),
-    }
-}
-
-/// The function that a name stands for.
-pub fn routine(program: &Program, what: Meaning) -> Option<&Function>
-    ensures { option_copied result ≡ spec.routine program.now what }
-{
-    match what {
-        Meaning::Routine(i) => program.functions.as_slice().get(i as usize),
-        _ => None,
-    }
-}
-
 /// The parameters of a function, and none where there is no function.
 pub fn parameters(function: Option<&Function>) -> &[Field]
     ensures { result.now ≡ typing.parameters (option_copied function.entry) }
@@ -118,23 +95,6 @@ pub fn rest_of(params: &[Field]) -> &[Field]
     match params {
         [] => params,
         [_, rest @ ..] => rest,
-    }
-}
-
-/// Whether a number is 0.
-pub fn is_zero_number(n: i32) -> bool
-    ensures { result ≡ types.is_zero_number n }
-{
-    n == 0
-}
-
-/// Whether a define is of the literal 0.
-pub fn is_zero_define(define: Option<&Define>) -> bool
-    ensures { result ≡ types.is_zero_define (option_copied define.entry) }
-{
-    match define {
-        Some(define) => !define.minus && is_zero_number(define.value),
-        None => false,
     }
 }
 

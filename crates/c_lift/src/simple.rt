@@ -10,10 +10,11 @@ ghost use Rattle.c_lift.specs.Adding.{Adds, stored, operated_into};
 use crate::bare::bare;
 use crate::build::{bin, destination};
 use crate::call::add_call;
-use crate::kind::{parameters, routine, type_or_int};
+use crate::kind::{parameters, type_or_int};
 use crate::spot::{Locals, Setting, Spot};
 use crate::take::{take, take_arguments};
 use c_tree::{BinOp, Dest, Expr, ExprKind, LExpr, LStmt, Name, Row, Text, Ty};
+use name_index::routine;
 use std::alloc::AllocError;
 
 /// A call with the slot of its result.

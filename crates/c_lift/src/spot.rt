@@ -8,9 +8,9 @@ ghost use Rattle.c_tree.specs.declared.scope.Named.{Named};
 ghost use Rattle.name_index.specs.Meanings.{meaning_of};
 
 use crate::build::{in_place, is_equality};
-use crate::kind::{is_pointer_type, is_zero_define, is_zero_number};
+use crate::kind::is_pointer_type;
 use c_tree::{BinOp, Expr, ExprKind, Field, LExpr, Meaning, Name, Named, Ty};
-use name_index::File;
+use name_index::{File, is_zero_define, is_zero_number};
 use std::alloc::Global;
 
 /// What all statements of a function stand in.

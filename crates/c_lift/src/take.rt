@@ -8,13 +8,14 @@ ghost use Rattle.c_lift.specs.Taking.{Took, TookAll};
 use crate::call::{
     add_call, deciding_slot, join, lock, new_object, operator, read_byte, start, temporary, unlock,
 };
-use crate::kind::{parameters, rest_of, result_type, routine, type_or_int};
+use crate::kind::{parameters, rest_of, result_type, type_or_int};
 use crate::spot::Spot;
 use crate::taken::{
     Taken, add_value, cast, element, end_of_file, literal_value, name_value, null_pointer, unary,
     untold,
 };
 use c_tree::{Expr, ExprKind, Field, LExpr, LStmt, Name, Row, Ty};
+use name_index::routine;
 use std::alloc::AllocError;
 
 /// The expression without its calls, whose statements and temporaries are added.

@@ -9,10 +9,10 @@ ghost use Rattle.c_tree.specs.declared.ty.Ty.TheVariants as ty;
 ghost use Rattle.c_lift.specs.Around.{around};
 
 use crate::build::{array_number, bin, elem, field, literal, named, un};
-use crate::kind::{element_type, field_number, field_type, name_type};
+use crate::kind::{field_number, field_type, name_type};
 use crate::spot::Spot;
 use c_tree::{BinOp, Expr, Field, LExpr, Name, Ty, UnOp};
-use name_index::File;
+use name_index::{File, element_type};
 use std::alloc::AllocError;
 
 /// What is left of an expression without its calls, and its type where it can be told.

@@ -11,8 +11,10 @@ mod laws;
 mod lay;
 mod points;
 mod size;
+mod tally;
 
 pub use laws::{all_places_are_counted, flow_goes_on, kind_and_number_tell_a_place};
 pub use lay::places;
 pub use points::points_text;
 pub use size::keeps_limit;
+pub use tally::Tally;

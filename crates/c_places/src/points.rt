@@ -4,51 +4,11 @@ ghost use Rattle.std.specs.Prelude.{◌≡◌, ◌≤◌, ◌<◌, ◌+◌, ◌+
 ghost use Rattle.std.specs.Fmt.{decimal};
 ghost use Rattle.c_tree.specs.Layout as layout;
 ghost use Rattle.c_tree.specs.Points as spec;
-ghost use Rattle.c_places.specs.Tally as tally;
 
+use crate::tally::Tally;
 use c_tree::{Lifted, Name, Place, PlaceKind, Places, Text};
 use itoa::Buffer;
 use std::alloc::{AllocError, Global};
-
-/// How many loops' ends, calls and blocks of a function have been listed.
-#[derive(Drop)]
-struct Tally {
-    loops: u32,
-    calls: u32,
-    blocks: u32,
-}
-
-impl Tally {
-    ghost use Rattle.std.specs.Prelude.{◌≡◌, ◌<◌};
-    ghost use Rattle.c_places.specs.Tally as tally;
-
-    /// Counts one place more, and gives its number among those of its kind where it is one of the
-    /// three that are counted.
-    fn number(&mut self, kind: PlaceKind) -> u32
-        requires loops { self.old.loops < 10000 }
-        requires calls { self.old.calls < 10000 }
-        requires blocks { self.old.blocks < 10000 }
-        ensures number { result ≡ tally.number self.old kind }
-        ensures counted { self.new ≡ tally.counted self.old kind }
-    {
-        match kind {
-            PlaceKind::LoopEnd => {
-                self.loops += 1;
-                self.loops
-            }
-            PlaceKind::Call => {
-                self.calls += 1;
-                self.calls
-            }
-            PlaceKind::Block => {
-                self.blocks += 1;
-                self.blocks
-            }
-            PlaceKind::Entry => 1,
-            PlaceKind::Plain => 1,
-        }
-    }
-}
 
 fn write_number(n: u32, out: &mut Vec<u8>) -> Result<(), AllocError>
     ensures { OnOk result (out.new.items ≡ out.old.items ++ decimal n) }
@@ -116,11 +76,7 @@ fn write_lines(function: &Name, row: &[Place], out: &mut Vec<u8>) -> Result<(), 
     requires { length row.now ≤ 10000 }
     ensures { OnOk result (out.new.items ≡ out.old.items ++ spec.lines_of function.now row.now) }
 {
-    let mut tally = Tally {
-        loops: 0,
-        calls: 0,
-        blocks: 0,
-    };
+    let mut tally = Tally::new();
     'places: for n in 0..row.len() {
         let kind = row[n].act.kind();
         let k = tally.number(kind);

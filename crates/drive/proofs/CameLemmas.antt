@@ -16,7 +16,7 @@ use Rattle.c_tree.specs.Update.{update}
 use Rattle.world_core.specs.declared.decision.Committed.{Committed}
 use Rattle.world_core.specs.declared.decision.Committed.TheVariants as committed
 use Rattle.world_core.specs.Decision.{kind_of}
-use Rattle.drive.proofs.ThreadsStay.{AsMany, update_many}
+use Rattle.c_tree.proofs.SameThreads.{AsMany, update_many}
 
 pub record Came (c d : Core) (p : Phase) (ps : List ℕ) : Type 0 where
   pub phase : d.phase ≡ p

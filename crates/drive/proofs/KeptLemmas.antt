@@ -12,7 +12,7 @@ use Rattle.c_tree.proofs.ThreadLemmas.{Few}
 use Rattle.drive.specs.OnWay.{IsKept}
 use Rattle.drive.proofs.CameLemmas.{Came}
 use Rattle.drive.proofs.ThreadsStay.{Many}
-use Rattle.drive.proofs.BoolLemmas.{true_false, and_first, and_last, and_both}
+use Rattle.c_tree.proofs.BoolLemmas.{true_false, and_first, and_last, and_both}
 
 pub is_Before : (p : Phase) → r.is_before p ≡ true → p ≡ phase.Before
 is_Before phase.Before h = refl

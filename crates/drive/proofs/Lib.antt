@@ -1,9 +1,7 @@
-pub mod BoolLemmas
 pub mod FindLemmas
 pub mod FilterLemmas
 pub mod ThreadsStay
 pub mod MeasureLemmas
-pub mod ChosenLemmas
 pub mod CameLemmas
 pub mod KeptLemmas
 pub mod RankLemmas

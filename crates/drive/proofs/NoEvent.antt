@@ -23,7 +23,7 @@ use Rattle.c_tree.specs.Plan.{picked, lowest_from, above, eligible, drawn}
 use Rattle.c_tree.specs.Step.{is_live, at_frame, top_of, frames_at}
 use Rattle.drive.proofs.FilterLemmas.{filter_find}
 use Rattle.drive.specs.OnWay.{IsKept}
-use Rattle.drive.proofs.BoolLemmas.{true_false, and_both, first_false, last_false}
+use Rattle.c_tree.proofs.BoolLemmas.{true_false, and_both, first_false, last_false}
 
 -- a thread waits at update places alone
 waits_there : (s : State) (t : ℕ) (f : Frame) (a : Act) → is_update_place a ≡ false → waits s t f a ≡ false

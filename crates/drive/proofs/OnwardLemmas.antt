@@ -20,9 +20,9 @@ use Rattle.world_core.specs.History.{History, core, over, IsMade}
 use Rattle.drive.specs.Measure.{measure}
 use Rattle.drive.specs.OnWay.{IsLow, IsKept, Agrees, IsOnward}
 use Rattle.drive.proofs.CameLemmas.{phase_of, request_came, park_came, resume_came, outcome_came, step_gives}
-use Rattle.drive.proofs.ChosenLemmas.{advance-by, chosen-Request, chosen-Park, chosen-outcome, chosen-Resume, chosen-Step}
+use Rattle.c_tree.proofs.ChosenLemmas.{advance-by, chosen-Request, chosen-Park, chosen-outcome, chosen-Resume, chosen-Step}
 use Rattle.drive.proofs.ThreadsStay.{step_many}
-use Rattle.drive.proofs.BoolLemmas.{true_false, and_first, and_last, not_true}
+use Rattle.c_tree.proofs.BoolLemmas.{true_false, and_first, and_last, not_true}
 use Rattle.drive.proofs.KeptLemmas.{is_Asked, after_not_before, due_before, found_thread, kept_came, one_more_made, all_without, kept_stepped, phase_stepped, parked_stepped}
 use Rattle.drive.proofs.RankLemmas.{less_by_rank, less_request, less_park, less_outcome, less_resume, less_step}
 

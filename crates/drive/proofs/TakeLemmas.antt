@@ -17,7 +17,7 @@ use Rattle.world_core.specs.Decision.{IsDecision, kind_decided}
 use Rattle.world_core.specs.declared.decision.Decision.{Decision}
 use Rattle.world_core.specs.declared.decision.Decision.TheVariants as decision
 use Rattle.drive.specs.Listed.{IsOutcome}
-use Rattle.drive.proofs.BoolLemmas.{true_false, and_first, and_last}
+use Rattle.c_tree.proofs.BoolLemmas.{true_false, and_first, and_last}
 
 stop : (o : Option End) (b : Bool) (c : r.Core) → (not (is_some o) && b) ≡ false → r.while_on o (r.legal b c) ≡ None
 stop None true c h = cc

@@ -10,7 +10,6 @@ mod fills;
 mod names;
 mod points;
 mod programs;
-mod tally;
 mod text;
 
 pub use names::name_at;

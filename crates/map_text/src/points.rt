@@ -9,8 +9,7 @@ ghost use Rattle.c_tree.specs.Points.{point_of};
 ghost use Rattle.c_tree.specs.Step.{function_of};
 ghost use Rattle.map_text.specs.Points as spec;
 
-use crate::tally::Tally;
-use c_places::places;
+use c_places::{Tally, places};
 use c_tree::{Lifted, Place, PlaceKind, Places, Pt, Row};
 use itoa::Buffer;
 use std::alloc::{AllocError, Global};

@@ -17,7 +17,7 @@ use Rattle.c_tree.specs.Scope.{is_same_name, names_of, has_name, struct_named, f
 use Rattle.c_tree.specs.Typing.{definitions}
 use Rattle.c_tree.specs.Lifting.{number_of, struct_number, function_number}
 use Rattle.c_tree.specs.Names.{find_name}
-use Rattle.name_index.specs.Numbers.{item_at}
+use Rattle.c_tree.specs.Numbers.{item_at}
 use Rattle.name_index.specs.Tables.{IsTableOf, field_names, names_in, struct_names, function_names}
 
 pub is_same_name-comm : (a b : List ℕ) → is_same_name a b ≡ is_same_name b a

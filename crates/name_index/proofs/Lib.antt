@@ -1,4 +1,3 @@
-pub mod NumberLemmas
 pub mod NameLemmas
 pub mod SortLemmas
 pub mod FoundLemmas

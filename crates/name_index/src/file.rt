@@ -7,9 +7,10 @@ ghost use Rattle.c_tree.specs.Scope as scope;
 ghost use Rattle.c_tree.specs.Types as types;
 ghost use Rattle.name_index.specs.Tables.{names_in, struct_names, field_names, function_names};
 
-use crate::index::{Index, at_number};
 use crate::names::names_of;
-use c_tree::{Define, Field, Function, Meaning, Name, Named, Program, Struct};
+use c_tree::{
+    Define, Field, Function, Index, Meaning, Name, Named, Program, Struct, at_number,
+};
 use std::alloc::{AllocError, Global};
 use std::marker::Model;
 

@@ -7,7 +7,7 @@ use Rattle.indexmap.specs.IndexMap.{get}
 use Rattle.c_tree.specs.Names.{is_number}
 use Rattle.c_tree.specs.Link.{origin}
 use Rattle.patch_match.specs.Origins.{Origins, GivesOrigins}
-use Rattle.name_index.proofs.NumberLemmas.{position_from-more}
+use Rattle.c_tree.proofs.NumberLemmas.{position_from-more}
 
 origin-more : (found : List (Option ℕ)) (o : Option ℕ) (j : ℕ) → origin (found ++ o ∷ []) j ≡ option_or (origin found j) (cond (is_number o j) (Some (length found)) None)
 origin-more found o j = let e : 0 + length found ≡ length found = omega arith in

@@ -5,8 +5,7 @@ ghost use Rattle.std.specs.Option.{option_copied};
 ghost use Rattle.c_tree.specs.Names as spec;
 ghost use Rattle.c_tree.specs.Step.{function_of};
 
-use c_tree::{LFunction, LGlobal, LStruct, Lifted, Name, Slot};
-use name_index::Index;
+use c_tree::{Index, LFunction, LGlobal, LStruct, Lifted, Name, Slot};
 use std::alloc::{AllocError, Global};
 use std::marker::Model;
 

@@ -7,7 +7,7 @@ use Rattle.std.proofs.lemmas.Bool.{eqb-true, eq-eqb, false≢true}
 use Rattle.indexmap.specs.IndexMap.{get}
 use Rattle.c_tree.specs.declared.mapping.LEntry.{LEntry}
 use Rattle.patch_match.proofs.AnyLemmas.{place_within}
-use Rattle.name_index.proofs.NumberLemmas.{position_from-more}
+use Rattle.c_tree.proofs.NumberLemmas.{position_from-more}
 use Rattle.stack_map.specs.declared.entries.Subject.{Subject}
 use Rattle.stack_map.specs.declared.entries.Subject.TheVariants as s
 use Rattle.stack_map.specs.Subjects.{Table, GivesFirst, first_about, is_about, is_same, is_subject, subject_of}

@@ -17,7 +17,7 @@ use Rattle.c_tree.specs.Step.{Outcome, Done, Trapped, Finished, Blocked, step}
 use Rattle.c_tree.specs.Run.{Core, first, next, run, run_from, stepped, is_before, is_after, is_stuck, or_else, where_true, without}
 use Rattle.c_tree.proofs.StepLemmas.{stepped-steps}
 use Rattle.state_laws.specs.RunLaws.{is_step, is_request, is_park, is_outcome, is_resume, count_of, HasFew}
-use Rattle.state_laws.proofs.BoolLemmas.{and_last, or_there, number_is}
+use Rattle.c_tree.proofs.BoolLemmas.{and_last, or_there, number_is}
 use Rattle.state_laws.proofs.Legal.{over_none, run_cons, request_is, step_is, park_is, update_is, refused, resume_is}
 use Rattle.state_laws.proofs.ParkedStand.{due_parts, step_parts, park_parts, decide_asked, resume_after}
 

@@ -22,7 +22,7 @@ use Rattle.c_tree.specs.Step.{is_live, at_frame, top_of, frames_at, step}
 use Rattle.c_tree.specs.Update.{update}
 use Rattle.c_tree.specs.Run.{Core, first, next, over, run, legal, decided, updated, threads, live_threads, is_due, is_at, is_before, is_asked, is_after, is_parked, may_step, may_park, may_decide, may_refuse, may_resume, is_memory, is_same_reason, refuses}
 use Rattle.state_laws.specs.RunLaws.{is_outcome, is_of_gate, IsLegal, Decides}
-use Rattle.state_laws.proofs.BoolLemmas.{true_false, and_first, and_last, and_both, first_false, last_false, by_test, same_number, number_is}
+use Rattle.c_tree.proofs.BoolLemmas.{true_false, and_first, and_last, and_both, first_false, last_false, by_test, same_number, number_is}
 use Rattle.state_laws.proofs.Legal.{next_is, legal_true, run_keeps, request_is, step_is, park_is, update_is, refused, resume_is}
 use Rattle.state_laws.proofs.ParkedStand.{due_parts, step_parts, park_parts, decide_asked, live_of_standing, live_parked}
 use Rattle.state_laws.proofs.Counts.{phase_stepped}

@@ -12,7 +12,7 @@ use Rattle.c_tree.specs.declared.run.Settings.{Settings}
 use Rattle.c_tree.specs.declared.state.State.{State}
 use Rattle.c_tree.specs.Step.{step}
 use Rattle.c_tree.specs.Run.{Core, after, run_from, next, over, table, while_on, legal, stepped, decided, updated, new_program, may_decide, may_step, may_park, may_resume, is_due, may_refuse, without}
-use Rattle.state_laws.proofs.BoolLemmas.{and_first, and_last}
+use Rattle.c_tree.proofs.BoolLemmas.{and_first, and_last}
 
 on_none : (o : Option End) (x : Option Core) (d : Core) → while_on o x ≡ Some d → o ≡ None
 on_none None x d h = refl

@@ -20,7 +20,6 @@ pub mod Matched
 pub mod Forms
 pub mod SoundUpdate
 pub mod UnchangedPlaces
-pub mod BoolLemmas
 pub mod OtherThreads
 pub mod Legal
 pub mod ParkedStand
@@ -29,7 +28,5 @@ pub mod NoPatch
 pub mod UpdateShape
 pub mod Gate
 pub mod Requests
-pub mod ChosenLemmas
-pub mod SameThreads
 pub mod PlanSteps
 pub mod PlanEnds

@@ -12,7 +12,7 @@ use Rattle.c_tree.specs.Able.{able}
 use Rattle.c_tree.specs.Step.{Outcome, Done, Trapped, Finished, Blocked, is_live, step}
 use Rattle.c_tree.specs.Run.{Core, first, next, after, over, run, run_from, stepped, threads, is_due, is_asked, is_stuck, may_step, or_else, where_true}
 use Rattle.state_laws.specs.RunLaws.{is_step, is_update, has, unarmed, quiet, steps_of, RunsWithoutPatch}
-use Rattle.state_laws.proofs.BoolLemmas.{and_first, and_last, or_first, or_second, or_here, or_there}
+use Rattle.c_tree.proofs.BoolLemmas.{and_first, and_last, or_first, or_second, or_here, or_there}
 use Rattle.state_laws.proofs.Legal.{over_none, next_is, legal_true, run_cons, request_is, step_is, park_is, refused, resume_is}
 use Rattle.state_laws.proofs.ParkedStand.{step_parts}
 use Rattle.state_laws.proofs.OtherThreads.{live_within}

@@ -12,7 +12,7 @@ use Rattle.c_tree.specs.Able.{able, standing}
 use Rattle.c_tree.specs.Step.{Outcome, Done, Trapped, Finished, Blocked, is_live, step}
 use Rattle.c_tree.specs.Run.{Core, first, next, run, stepped, live_threads, is_due, is_at, is_before, is_asked, is_after, is_parked, may_step, may_park, may_decide, may_resume}
 use Rattle.state_laws.specs.RunLaws.{ParkedStand, LiveStand}
-use Rattle.state_laws.proofs.BoolLemmas.{true_false, and_first, and_last, not_true, number_is}
+use Rattle.c_tree.proofs.BoolLemmas.{true_false, and_first, and_last, not_true, number_is}
 use Rattle.state_laws.proofs.Legal.{run_keeps, request_is, step_is, park_is, update_is, refused, resume_is}
 use Rattle.state_laws.proofs.OtherThreads.{live_within, standing_stays}
 

@@ -7,7 +7,7 @@ use Rattle.c_tree.specs.declared.run.Picker.{Picker}
 use Rattle.c_tree.specs.declared.run.Settings.{Settings}
 use Rattle.c_tree.specs.Run.{Core, over}
 use Rattle.c_tree.specs.Plan.{IsPlanned, Progress, progress}
-use Rattle.state_laws.proofs.ChosenLemmas.{advance-by}
+use Rattle.c_tree.proofs.ChosenLemmas.{advance-by}
 use Rattle.state_laws.proofs.PlanSteps.{IsKept, IsLess, first_kept, GoesOn, goes_on, steps_left, stage_of, marks_left}
 
 -- the core of a plan after n events

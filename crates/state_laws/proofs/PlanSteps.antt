@@ -24,15 +24,15 @@ use Rattle.c_tree.specs.Run.{Core, first, next, over, threads, live_threads, ste
 use Rattle.c_tree.specs.Plan.{chosen, picked, lowest_from, above, eligible, drawn, outcome, outcome_of}
 use Rattle.c_tree.proofs.StepLemmas.{stepped-steps}
 use Rattle.state_laws.specs.RunLaws.{IsLegal}
-use Rattle.state_laws.proofs.BoolLemmas.{true_false, and_last, and_both, first_false, last_false, same_number}
+use Rattle.c_tree.proofs.BoolLemmas.{true_false, and_last, and_both, first_false, last_false, same_number}
 use Rattle.state_laws.proofs.Legal.{next_is, legal_true, update_is, refused}
 use Rattle.state_laws.proofs.OtherThreads.{live_within}
 use Rattle.state_laws.proofs.ParkedStand.{due_parts, step_parts, park_parts, decide_asked, resume_after, live_of_standing, Stand, event_stand, first_stand}
 use Rattle.state_laws.proofs.Counts.{phase_stepped, parked_stepped, not_limit, some_without, step_falls}
 use Rattle.state_laws.proofs.Gate.{IsAsked, event_asked, same_reason, may_update, may_refuse_for, live_able, may_of, free_in, not_all}
 use Rattle.state_laws.proofs.NoPatch.{any_at}
-use Rattle.state_laws.proofs.ChosenLemmas.{chosen-Request, chosen-Park, chosen-outcome, chosen-Resume, chosen-Step}
-use Rattle.state_laws.proofs.SameThreads.{AsMany, update_many}
+use Rattle.c_tree.proofs.ChosenLemmas.{chosen-Request, chosen-Park, chosen-outcome, chosen-Resume, chosen-Step}
+use Rattle.c_tree.proofs.SameThreads.{AsMany, update_many}
 
 -- how far a run has come with its update
 abbrev stage : Phase → ℕ

@@ -15,7 +15,7 @@ use Rattle.c_tree.specs.Able.{able}
 use Rattle.c_tree.specs.Step.{step}
 use Rattle.c_tree.specs.Run.{Core, first, next, after, over, run, run_from, threads, is_due, is_at, is_before, is_asked, or_else, where_true}
 use Rattle.state_laws.specs.RunLaws.{is_request, has, ComesToRequest}
-use Rattle.state_laws.proofs.BoolLemmas.{true_false, by_test, or_here, number_is}
+use Rattle.c_tree.proofs.BoolLemmas.{true_false, by_test, or_here, number_is}
 use Rattle.state_laws.proofs.Legal.{run_cons, run_split, request_is, step_is, park_is, update_is, refused, resume_is}
 use Rattle.state_laws.proofs.ParkedStand.{due_parts, step_parts, park_parts, decide_asked, resume_after, after_not_before}
 use Rattle.state_laws.proofs.Counts.{phase_stepped}

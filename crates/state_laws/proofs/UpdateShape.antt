@@ -16,7 +16,7 @@ use Rattle.c_tree.specs.Step.{Outcome, Done, Trapped, Finished, Blocked, step}
 use Rattle.c_tree.specs.Update.{update}
 use Rattle.c_tree.specs.Run.{Core, first, next, after, run, run_from, stepped, decided, new_program}
 use Rattle.state_laws.specs.RunLaws.{is_outcome, is_update, has, count_of, IsUpdatedOnce}
-use Rattle.state_laws.proofs.BoolLemmas.{or_first, or_second}
+use Rattle.c_tree.proofs.BoolLemmas.{or_first, or_second}
 use Rattle.state_laws.proofs.Legal.{run_cons, run_split, request_is, step_is, park_is, update_is, resume_is}
 use Rattle.state_laws.proofs.ParkedStand.{live_stand}
 use Rattle.state_laws.proofs.Counts.{count-cons, has_few}

@@ -1,19 +1,10 @@
-use Rattle.std.proofs.Common.{◌∙◌, ap, arith}
-use Rattle.c_tree.specs.declared.place.PlaceKind.TheVariants as kind
-use Rattle.c_places.proofs.TallyLemmas.{before-le, counted_more, line_more}
+use Rattle.std.proofs.Common.{◌∙◌, arith}
+use Rattle.c_places.proofs.TallyLemmas.{counted_more, line_more, seen-le}
 use Rattle.c_places.proofs.points.write_lines.Goals as goal
 
-pub number-k-requires-clause-loops : goal.number-k-requires-clause-loops
-number-k-requires-clause-loops c =
-    omega (arith, ap (λ t. t.loops) c.places.invariant.0, before-le kind.LoopEnd c.args.row.now c.places.n)
-
-pub number-k-requires-clause-calls : goal.number-k-requires-clause-calls
-number-k-requires-clause-calls c =
-    omega (arith, ap (λ t. t.calls) c.places.invariant.0, before-le kind.Call c.args.row.now c.places.n)
-
-pub number-k-requires-clause-blocks : goal.number-k-requires-clause-blocks
-number-k-requires-clause-blocks c =
-    omega (arith, ap (λ t. t.blocks) c.places.invariant.0, before-le kind.Block c.args.row.now c.places.n)
+pub number-k-requires : goal.number-k-requires
+number-k-requires c =
+    omega (arith, seen-le c.places.tally c.args.row.now c.places.n c.kind-kind.result c.places.invariant.0)
 
 pub places-preserved : goal.places-preserved
 places-preserved c = (

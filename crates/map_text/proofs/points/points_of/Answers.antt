@@ -1,5 +1,6 @@
 use Rattle.std.proofs.Common.{◌∙◌, arith}
-use Rattle.map_text.proofs.TallyLemmas.{seen-le, counted_more, points_more}
+use Rattle.c_places.proofs.TallyLemmas.{seen-le, counted_more}
+use Rattle.map_text.proofs.TallyLemmas.{points_more}
 use Rattle.map_text.proofs.points.points_of.Goals as goal
 
 pub number-number-requires : goal.number-number-requires

@@ -1,6 +1,6 @@
 use Rattle.std.proofs.Common.{◌≡◌, map}
 use Rattle.std.specs.List.{range_with_len}
-use Rattle.map_text.specs.Tally.{of_first}
+use Rattle.c_places.specs.Tally.{of_first}
 use Rattle.map_text.specs.Points.{point_at}
 use Rattle.map_text.proofs.points.points_of.Given as goal
 

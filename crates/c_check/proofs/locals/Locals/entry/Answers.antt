@@ -2,7 +2,7 @@ use Rattle.std.proofs.Common.{◌∙◌, ap}
 use Rattle.std.specs.Prelude.{find, reverse}
 use Rattle.std.specs.Option.{option_map}
 use Rattle.c_tree.specs.Scope.{has_name}
-use Rattle.name_index.specs.Numbers.{item_at}
+use Rattle.c_tree.specs.Numbers.{item_at}
 use Rattle.c_check.specs.Stack.{height, named_by}
 use Rattle.c_check.proofs.StackLemmas.{entry_is}
 use Rattle.c_check.proofs.locals.Locals.entry.Goals as goal

@@ -1,6 +1,6 @@
 use Rattle.std.proofs.Common.{sym}
-use Rattle.name_index.proofs.NumberLemmas.{number_before, number_now}
-use Rattle.name_index.proofs.index.add_number.Goals as goal
+use Rattle.c_tree.proofs.NumberLemmas.{number_before, number_now}
+use Rattle.c_tree.proofs.index.add_number.Goals as goal
 
 pub returns-in-Some : goal.returns-in-Some
 returns-in-Some c = λ xs gives at. number_before c.args.numbers.now xs c.args.name.now _ gives (sym c.in-Some.ensures.value)

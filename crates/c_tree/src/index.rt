@@ -3,9 +3,10 @@
 ghost use Rattle.std.specs.Prelude.{◌≡◌, ℕ, List, [], ◌∷◌, ◌++◌, length, IfOk, OnOk};
 ghost use Rattle.std.specs.Option.{option_copied};
 ghost use Rattle.c_tree.specs.Names.{find_name};
-ghost use Rattle.name_index.specs.Numbers.{GivesNumbers, item_at};
+ghost use Rattle.c_tree.specs.Numbers.{GivesNumbers, item_at};
 
-use c_tree::{Name, narrowed};
+use crate::number::narrowed;
+use crate::text::Name;
 use indexmap::IndexMap;
 use std::alloc::{AllocError, Global};
 use std::marker::Model;
@@ -27,7 +28,7 @@ impl Drop for Index {
 
 impl Model for Index {
     ghost use Rattle.std.specs.Prelude.{ℕ, List};
-    ghost use Rattle.name_index.specs.Numbers.{GivesNumbers};
+    ghost use Rattle.c_tree.specs.Numbers.{GivesNumbers};
 
     ghost Value = { List (List ℕ) };
 

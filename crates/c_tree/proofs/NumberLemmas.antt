@@ -4,7 +4,7 @@ use Rattle.std.specs.Option.{option_or}
 use Rattle.std.specs.List.{position_from}
 use Rattle.std.specs.Cmp.Lexicographic.{pointwise, same_text, other_text}
 use Rattle.indexmap.specs.IndexMap.{get}
-use Rattle.name_index.specs.Numbers.{Numbers, GivesNumbers}
+use Rattle.c_tree.specs.Numbers.{Numbers, GivesNumbers}
 use Rattle.c_tree.specs.Names.{find_name}
 
 pub position_from-more : {X : Type 0} (p : X → Bool) (i : ℕ) (xs : List X) (x : X) →

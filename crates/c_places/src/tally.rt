@@ -15,7 +15,7 @@ pub struct Tally {
 }
 
 impl Tally {
-    ghost use Rattle.map_text.specs.Tally as spec;
+    ghost use Rattle.c_places.specs.Tally as spec;
 
     /// No place has been seen.
     pub fn new() -> Tally
