@@ -17,8 +17,9 @@ use Rattle.c_tree.specs.Step.{function_of}
 use Rattle.c_tree.specs.Names.{find_name, names_in, slot_names, struct_of, same_number}
 use Rattle.c_tree.specs.Points.{is_kind, place_of}
 use Rattle.c_tree.specs.Link.{Link}
-use Rattle.c_tree.specs.Entries.{new_number, lifted_entry, same_side, clash}
+use Rattle.c_tree.specs.Causes.{same_side, clash}
 use Rattle.c_tree.specs.Sound.{numbers_clash}
+use Rattle.patch_laws.specs.Chain.{new_number, lifted_entry}
 use Rattle.patch_laws.proofs.Numbers.{same_found, same_place}
 use Rattle.patch_laws.proofs.LiftedForms.{there_known, same_ok, MatchForm, FieldForm, InitForm, PointForm, EntryForm, entry_form}
 

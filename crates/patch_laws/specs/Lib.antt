@@ -1,2 +1,3 @@
 pub mod Laws
-pub mod Causes
+-- How the least cause is computed.
+pub mod Chain
