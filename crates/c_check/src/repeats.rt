@@ -65,7 +65,8 @@ fn may_follow(other: Option<&Named>, x: &Named, is_defined: bool, file: &File<'_
         None => true,
         Some(y) => {
             let function = routine(file.program(), x.meaning);
-            agree(routine(file.program(), y.meaning), function) && !(has_body(function) && is_defined)
+            agree(routine(file.program(), y.meaning), function)
+                && !(has_body(function) && is_defined)
         }
     }
 }

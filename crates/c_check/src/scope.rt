@@ -10,9 +10,7 @@ ghost use Rattle.c_check.specs.Words.{noted, typed, found, element, indexed};
 
 use crate::locals::Locals;
 use crate::note::note;
-use c_tree::{
-    CheckCause, Expr, ExprKind, Fault, GlobalDecl, Meaning, Name, Program, Ty,
-};
+use c_tree::{CheckCause, Expr, ExprKind, Fault, GlobalDecl, Meaning, Name, Program, Ty};
 use name_index::{File, element_type, is_zero_define, is_zero_number};
 use std::alloc::AllocError;
 

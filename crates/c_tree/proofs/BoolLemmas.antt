@@ -1,5 +1,5 @@
 -- Tests of two parts, and equal numbers.
-use Rattle.std.proofs.Common.{◌≡◌, ℕ, Bool, true, false, not, ◌&&◌, ◌||◌, ◌==◌, refl, arith}
+use Rattle.std.proofs.Common.{◌≡◌, ℕ, Bool, true, false, not, ◌&&◌, ◌||◌, ◌==◌, refl, ap, arith}
 use Rattle.std.proofs.lemmas.Bool.Decides.{nat_tests}
 
 pub true_false : true ≡ false → ⊥
@@ -56,3 +56,8 @@ same_number n = grind (arith, nat_tests)
 
 pub number_is : (n m : ℕ) → (n == m) ≡ true → n ≡ m
 number_is n m h = grind (arith, nat_tests)
+
+-- a second part counts only where the first holds
+pub and_same : (s t u v : Bool) → s ≡ t → (s ≡ true → u ≡ v) → (s && u) ≡ (t && v)
+and_same true t u v e f = f refl ∙ ap (λ z. z && v) e
+and_same false t u v e f = ap (λ z. z && v) e

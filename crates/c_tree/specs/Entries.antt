@@ -1,31 +1,30 @@
 -- Entries of a mapping: names as numbers, or the least cause why an entry is unsound.
---
--- The causes of an entry are asked in ascending order, and each test takes for granted what those before it found; so the
--- first that holds is the least.
-use Rattle.std.specs.Prelude.{ℕ, zero, suc, ◌+◌, Bool, false, not, ◌&&◌, ◌||◌, ◌==◌, is_ok, if◌then◌else◌, List, [], ◌∷◌, ◌++◌, map, Option, Some, None, Result, Ok, Err}
+use Rattle.std.specs.Prelude.{ℕ, ◌+◌, Bool, not, ◌&&◌, ◌==◌, if◌then◌else◌, List, [], ◌∷◌, ◌++◌, map, find, Option, Some, None, Result, Ok, Err}
 use Rattle.std.specs.Option.{ok_or, option_map}
 use Rattle.std.specs.List.{list_any}
 use Rattle.c_tree.specs.declared.cause.EntryCause.{EntryCause}
 use Rattle.c_tree.specs.declared.cause.EntryCause.TheVariants as c
-use Rattle.c_tree.specs.declared.lifted.LExpr.{LExpr}
 use Rattle.c_tree.specs.declared.lifted.Lifted.{Lifted}
 use Rattle.c_tree.specs.declared.lifted.Slot.{Slot}
-use Rattle.c_tree.specs.declared.program.Expr.{Expr}
-use Rattle.c_tree.specs.declared.mapping.Pt.{Pt}
 use Rattle.c_tree.specs.declared.mapping.Fill.{Fill}
 use Rattle.c_tree.specs.declared.mapping.Entry.{Entry}
 use Rattle.c_tree.specs.declared.mapping.Entry.TheVariants as n
 use Rattle.c_tree.specs.declared.mapping.LFill.{LFill}
 use Rattle.c_tree.specs.declared.mapping.LEntry.{LEntry}
 use Rattle.c_tree.specs.declared.mapping.LEntry.TheVariants as l
-use Rattle.c_tree.specs.Scope.{is_same_name}
 use Rattle.c_tree.specs.Step.{function_of}
-use Rattle.c_tree.specs.Refusal.{onward, refuse_if}
+use Rattle.c_tree.specs.Refusal.{onward, unless_refused}
 use Rattle.c_tree.specs.Names.{find_name, names_in, slot_names, struct_of}
-use Rattle.c_tree.specs.Points.{is_kind, place_of}
+use Rattle.c_tree.specs.Points.{place_of}
 use Rattle.c_tree.specs.Link.{Link, Claim, linked, match_at}
 use Rattle.c_tree.specs.MapExpr.{Reads, only_globals, numbered}
-use Rattle.c_tree.specs.Suits.{site, kinds_differ, callees_differ, start_differs, reads_slots, reads_fields, suits_slot, suits_global, suits_check, has_twice}
+use Rattle.c_tree.specs.Suits.{reads_slots, reads_fields}
+use Rattle.c_tree.specs.Causes.{lacks_side, breaks_start, clash, holds, all_causes}
+
+-- goes on with what is there
+abbrev pub if_there : {A B : Type 0} → Option A → (A → Option B) → Option B
+if_there None go = None
+if_there (Some x) go = go x
 
 -- a value before others, or none where it or one of them is missing
 abbrev pub both : {A : Type 0} → Option A → Option (List A) → Option (List A)
@@ -37,94 +36,53 @@ abbrev pub all_there : {A : Type 0} → List (Option A) → Option (List A)
 all_there [] = Some []
 all_there (o ∷ rest) = both o (all_there rest)
 
--- why a match entry of a kind is unsound that names what is not there
-abbrev pub missing : ℕ → EntryCause
-missing zero = c.UnknownFunction
-missing (suc zero) = c.UnknownStruct
-missing (suc (suc kind)) = c.UnknownGlobal
-
 -- `none`, or the number of a new side
-abbrev pub new_number : ℕ → Lifted → Option (List ℕ) → Result (Option ℕ) EntryCause
-new_number kind new None = Ok None
-new_number kind new (Some name) = onward (ok_or (find_name name (names_in new kind)) (missing kind)) (λ j. Ok (Some j))
+abbrev pub side_by_number : ℕ → Lifted → Option (List ℕ) → Option (Option ℕ)
+side_by_number kind new None = Some None
+side_by_number kind new (Some name) = option_map (λ j. Some j) (find_name name (names_in new kind))
 
--- a match entry by numbers, or its least cause
-abbrev pub lifted_match : Lifted → Lifted → ℕ → List ℕ → Option (List ℕ) → Result LEntry EntryCause
-lifted_match old new kind a b =
-    onward (ok_or (find_name a (names_in old kind)) (missing kind)) (λ i.
-    onward (new_number kind new b) (λ j.
-    refuse_if (kind == 0 && start_differs old new i j) c.StartDiffers (Ok (l.Match kind i j))))
+-- what fills a slot, by numbers
+abbrev pub fill_by_numbers : Reads → List Slot → Fill → Option LFill
+fill_by_numbers r slots x =
+    if_there (find_name x.slot (slot_names slots)) (λ i.
+    if_there (numbered r x.expr.kind) (λ y.
+    Some (record { slot = i; expr = y })))
 
--- an expression by number that suits
-abbrev pub suited : (LExpr → Bool) → Option LExpr → Option LExpr
-suited test None = None
-suited test (Some x) = if test x then Some x else None
+-- an entry by numbers; None where a name, a place or a match is not there
+abbrev pub by_numbers : Link → Entry → Option LEntry
+by_numbers k (n.Match kind a b) =
+    if_there (find_name a (names_in k.old kind)) (λ i.
+    if_there (side_by_number kind k.new b) (λ j.
+    Some (l.Match kind i j)))
+by_numbers k (n.Field owner name x) =
+    if_there (find_name owner (names_in k.new 1)) (λ s.
+    if_there (find_name name (slot_names (struct_of k.new s).fields)) (λ i.
+    if_there (numbered (reads_fields k s) x.kind) (λ y.
+    Some (l.Field s i y))))
+by_numbers k (n.Init name x) =
+    if_there (find_name name (names_in k.new 2)) (λ g.
+    if_there (numbered (only_globals k.old) x.kind) (λ y.
+    Some (l.Init g y)))
+by_numbers k (n.Point name from to fills) =
+    if_there (find_name name (names_in k.old 0)) (λ f.
+    if_there (match_at k.functions f) (λ g.
+    if_there (place_of (function_of k.old f) from) (λ i.
+    if_there (place_of (function_of k.new g) to) (λ j.
+    if_there (all_there (map (fill_by_numbers (reads_slots k f) (function_of k.new g).slots) fills)) (λ xs.
+    Some (l.Point f i j xs))))))
+by_numbers k (n.Check x) = if_there (numbered (only_globals k.old) x.kind) (λ y. Some (l.Check y))
 
--- what fills a field of a new struct
-abbrev pub lifted_field : Link → List ℕ → List ℕ → Expr → Result LEntry EntryCause
-lifted_field k owner name x =
-    onward (ok_or (find_name owner (names_in k.new 1)) c.UnknownStruct) (λ s.
-    onward (ok_or (find_name name (slot_names (struct_of k.new s).fields)) c.BadExpr) (λ i.
-    onward (ok_or (suited (suits_slot k (reads_fields k s) (struct_of k.new s).fields i) (numbered (reads_fields k s) x.kind)) c.BadExpr) (λ y.
-    Ok (l.Field s i y))))
+-- the least cause that holds of an entry after some earlier ones
+abbrev pub least_cause : Link → List Entry → Entry → Option EntryCause
+least_cause k earlier x = find (holds k earlier x) all_causes
 
--- what fills a new global
-abbrev pub lifted_init : Link → List ℕ → Expr → Result LEntry EntryCause
-lifted_init k name x =
-    onward (ok_or (find_name name (names_in k.new 2)) c.UnknownGlobal) (λ g.
-    onward (ok_or (suited (suits_global k g) (numbered (only_globals k.old) x.kind)) c.BadExpr) (λ y.
-    Ok (l.Init g y)))
-
--- a check
-abbrev pub lifted_check : Link → Expr → Result LEntry EntryCause
-lifted_check k x = onward (ok_or (suited (suits_check k) (numbered (only_globals k.old) x.kind)) c.BadExpr) (λ y. Ok (l.Check y))
-
--- what fills the slot of a number
-abbrev pub lifted_fill_at : Link → Reads → List Slot → Expr → Option ℕ → Option LFill
-lifted_fill_at k r slots x None = None
-lifted_fill_at k r slots x (Some i) = option_map (λ y. record { slot = i; expr = y }) (suited (suits_slot k r slots i) (numbered r x.kind))
-
--- what fills the slot of a name
-abbrev pub lifted_fill : Link → Reads → List Slot → Fill → Option LFill
-lifted_fill k r slots x = lifted_fill_at k r slots x.expr (find_name x.slot (slot_names slots))
-
--- a place that is mapped, with what fills its slots
-abbrev pub lifted_point : Link → List ℕ → Pt → Pt → List Fill → Result LEntry EntryCause
-lifted_point k name from to fills =
-    onward (ok_or (find_name name (names_in k.old 0)) c.UnknownFunction) (λ f.
-    onward (ok_or (match_at k.functions f) c.UnknownFunction) (λ g.
-    onward (ok_or (place_of (function_of k.old f) from) c.UnknownPoint) (λ n.
-    onward (ok_or (place_of (function_of k.new g) to) c.UnknownPoint) (λ m.
-    refuse_if (kinds_differ k (site f n) (site g m)) c.KindDiffers (
-    refuse_if (callees_differ k (site f n) (site g m)) c.CalleeDiffers (
-    onward (ok_or (all_there (map (lifted_fill k (reads_slots k f) (function_of k.new g).slots) fills)) c.BadExpr) (λ xs.
-    refuse_if (has_twice (map (λ x. x.slot) xs)) c.Twice (
-    Ok (l.Point f n m xs)))))))))
-
--- an entry by numbers, or its least cause but that of an earlier entry
-abbrev pub lifted_entry : Link → Entry → Result LEntry EntryCause
-lifted_entry k (n.Match kind a b) = lifted_match k.old k.new kind a b
-lifted_entry k (n.Field owner name x) = lifted_field k owner name x
-lifted_entry k (n.Init name x) = lifted_init k name x
-lifted_entry k (n.Point f from to fills) = lifted_point k f from to fills
-lifted_entry k (n.Check x) = lifted_check k x
-
--- two new sides are there and have one name
-abbrev pub same_side : Option (List ℕ) → Option (List ℕ) → Bool
-same_side (Some a) (Some b) = is_same_name a b
-same_side _ _ = false
-
--- two entries name one old side, new side, old place, field or scalar
-abbrev pub clash : Entry → Entry → Bool
-clash (n.Match i a b) (n.Match j x y) = i == j && (is_same_name a x || same_side b y)
-clash (n.Field s a _) (n.Field t b _) = is_same_name s t && is_same_name a b
-clash (n.Init a _) (n.Init b _) = is_same_name a b
-clash (n.Point f p _ _) (n.Point g q _ _) = is_same_name f g && is_kind p.kind q.kind && p.number == q.number
-clash _ _ = false
-
--- an entry by numbers, or its least cause
+-- an entry is refused for its least cause, and else it is the one by numbers; that it has these then is a law of entries
 abbrev pub sound_entry : Link → List Entry → Entry → Result LEntry EntryCause
-sound_entry k earlier x = onward (lifted_entry k x) (λ y. refuse_if (list_any (clash x) earlier) c.Twice (Ok y))
+sound_entry k earlier x = unless_refused (least_cause k earlier x) (ok_or (by_numbers k x) c.BadExpr)
+
+-- both sides of a match entry are there, and starts are kept
+abbrev pub can_match : Lifted → Lifted → ℕ → List ℕ → Option (List ℕ) → Bool
+can_match old new kind a b = not (lacks_side old new kind a b) && not (breaks_start old new kind a b)
 
 -- the number of a new side
 abbrev pub side_number : ℕ → Lifted → Option (List ℕ) → Option ℕ
@@ -138,7 +96,7 @@ claims_of old new kind earlier (n.Match i a b) =
     then record {
       old = find_name a (names_in old kind);
       new = side_number kind new b;
-      stands = is_ok (lifted_match old new kind a b) && not (list_any (clash (n.Match i a b)) earlier);
+      stands = can_match old new kind a b && not (list_any (clash (n.Match i a b)) earlier);
     } ∷ []
     else []
 claims_of old new kind earlier _ = []

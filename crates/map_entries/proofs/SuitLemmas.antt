@@ -7,7 +7,7 @@ use Rattle.c_tree.specs.Types.{is_int}
 use Rattle.c_tree.specs.Link.{Link}
 use Rattle.c_tree.specs.MapExpr.{Reads, only_globals, passes, fills_type}
 use Rattle.c_tree.specs.Suits.{suits, suits_check}
-use Rattle.c_tree.specs.Entries.{suited}
+use Rattle.c_tree.specs.Chain.{suited}
 use Rattle.map_entries.specs.declared.typed.Typed.{Typed}
 use Rattle.map_entries.specs.Typed.{typed}
 

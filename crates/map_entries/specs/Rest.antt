@@ -10,7 +10,8 @@ use Rattle.c_tree.specs.Step.{function_of}
 use Rattle.c_tree.specs.Refusal.{onward, refuse_if}
 use Rattle.c_tree.specs.Link.{Link}
 use Rattle.c_tree.specs.Suits as suits
-use Rattle.c_tree.specs.Entries.{all_there, lifted_fill}
+use Rattle.c_tree.specs.Entries.{all_there}
+use Rattle.c_tree.specs.Chain.{lifted_fill}
 use Rattle.map_entries.specs.declared.site.Site.{Site}
 
 -- the place of a site, as definitions see it

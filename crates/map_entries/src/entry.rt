@@ -1,7 +1,8 @@
 //! One entry of a mapping by numbers, or its least cause.
 
-ghost use Rattle.std.specs.Prelude.{◌≡◌};
+ghost use Rattle.std.specs.Prelude.{◌≡◌, []};
 ghost use Rattle.c_tree.specs.Entries as spec;
+ghost use Rattle.c_tree.specs.Chain as chain;
 ghost use Rattle.map_entries.specs.Gives.{Gives};
 ghost use Rattle.map_entries.specs.Rest as rest;
 
@@ -12,7 +13,7 @@ use crate::reads::Reads;
 use crate::refused::EntryRefused;
 use crate::site::{Site, callees_differ, kinds_differ};
 use c_tree::{Entry, EntryCause, Expr, Fill, LEntry, Name, Pt};
-use patch_match::{Link, lifted_match};
+use patch_match::Link;
 use std::alloc::Global;
 
 /// What fills a field of a new struct.
@@ -23,7 +24,7 @@ fn lifted_field(
     name: &Name,
     x: &Expr,
 ) -> Result<LEntry, EntryRefused>
-    ensures { Gives result (spec.lifted_field k.now owner.now name.now x.now) }
+    ensures { Gives result (chain.lifted_field k.now owner.now name.now x.now) }
 {
     let s = k.new().number(1, owner).ok_or(EntryCause::UnknownStruct)?;
     let i = k.new().field(s, name).ok_or(EntryCause::BadExpr)?;
@@ -34,7 +35,7 @@ fn lifted_field(
 
 /// What fills a new global.
 fn lifted_init(alloc: Global, k: &Link<'_>, name: &Name, x: &Expr) -> Result<LEntry, EntryRefused>
-    ensures { Gives result (spec.lifted_init k.now name.now x.now) }
+    ensures { Gives result (chain.lifted_init k.now name.now x.now) }
 {
     let g = k.new().number(2, name).ok_or(EntryCause::UnknownGlobal)?;
     let asked = scalar_asked(k.new().program().globals.as_slice(), g);
@@ -44,7 +45,7 @@ fn lifted_init(alloc: Global, k: &Link<'_>, name: &Name, x: &Expr) -> Result<LEn
 
 /// A check by numbers.
 fn lifted_check(alloc: Global, k: &Link<'_>, x: &Expr) -> Result<LEntry, EntryRefused>
-    ensures { Gives result (spec.lifted_check k.now x.now) }
+    ensures { Gives result (chain.lifted_check k.now x.now) }
 {
     let y = testing(alloc, k, x)?.ok_or(EntryCause::BadExpr)?;
     Ok(LEntry::Check(y))
@@ -104,7 +105,7 @@ fn lifted_point(
 ) -> Result<LEntry, EntryRefused>
     requires old { old.now ≡ k.now.old }
     requires new { new.now ≡ k.now.new }
-    ensures { Gives result (spec.lifted_point k.now name.now from to fills.now) }
+    ensures { Gives result (chain.lifted_point k.now name.now from to fills.now) }
 {
     let f = k.old().number(0, name).ok_or(EntryCause::UnknownFunction)?;
     let g = k.function(f).ok_or(EntryCause::UnknownFunction)?;
@@ -121,8 +122,8 @@ fn lifted_point(
     point_between(alloc, k, old, new, from, to, fills)
 }
 
-/// An entry of a mapping by numbers, or its least cause but that of an earlier entry. The link and
-/// the tables of points are of the same programs.
+/// An entry of a mapping by numbers, or its least cause, where no entry comes before it. The link
+/// and the tables of points are of the same programs.
 pub fn lifted_entry(
     alloc: Global,
     k: &Link<'_>,
@@ -132,11 +133,11 @@ pub fn lifted_entry(
 ) -> Result<LEntry, EntryRefused>
     requires old { old.now ≡ k.now.old }
     requires new { new.now ≡ k.now.new }
-    ensures { Gives result (spec.lifted_entry k.now entry.now) }
+    ensures { Gives result (spec.sound_entry k.now [] entry.now) }
 {
     match entry {
         Entry::Match(kind, a, b) => {
-            let lifted = lifted_match(k.old(), k.new(), *kind, a, b)?;
+            let lifted = k.lifted_match(*kind, a, b)?;
             Ok(lifted)
         }
         Entry::Field(owner, name, x) => lifted_field(alloc, k, owner, name, x),

@@ -3,7 +3,8 @@
 ghost use Rattle.std.specs.Prelude.{◌≡◌, map, IfOk};
 ghost use Rattle.c_tree.specs.Step.{function_of};
 ghost use Rattle.c_tree.specs.Suits as suits;
-ghost use Rattle.c_tree.specs.Entries as spec;
+ghost use Rattle.c_tree.specs.Entries.{all_there};
+ghost use Rattle.c_tree.specs.Chain.{lifted_fill};
 
 use crate::fits::{filling, slot_asked};
 use crate::reads::Reads;
@@ -20,7 +21,7 @@ fn lifted_fill(
     to: u32,
     fill: &Fill,
 ) -> Result<Option<LFill>, AllocError>
-    ensures { IfOk result (λ o. o ≡ spec.lifted_fill k.now
+    ensures { IfOk result (λ o. o ≡ lifted_fill k.now
         (suits.reads_slots k.now from) (function_of k.now.new to).slots fill.now) }
 {
     let slot = match k.new().slot(to, &fill.slot) {
@@ -42,7 +43,7 @@ pub fn lifted_fills(
     to: u32,
     fills: &[Fill],
 ) -> Result<Option<Row<LFill>>, AllocError>
-    ensures { IfOk result (λ o. o ≡ spec.all_there (map (spec.lifted_fill k.now
+    ensures { IfOk result (λ o. o ≡ all_there (map (lifted_fill k.now
         (suits.reads_slots k.now from) (function_of k.now.new to).slots) fills.now)) }
 {
     let mut lifted = Vec::new(alloc);

@@ -2,9 +2,9 @@
 
 ghost use Rattle.std.specs.Prelude.{◌≡◌, slice_get, IfOk};
 ghost use Rattle.std.specs.Option.{option_copied};
-ghost use Rattle.c_tree.specs.Entries.{suited};
 ghost use Rattle.c_tree.specs.MapExpr as spec;
 ghost use Rattle.c_tree.specs.Suits as suits;
+ghost use Rattle.c_tree.specs.Chain.{suited};
 ghost use Rattle.map_entries.specs.Typed.{reads_of};
 
 use crate::expr::numbered;

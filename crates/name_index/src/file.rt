@@ -8,9 +8,7 @@ ghost use Rattle.c_tree.specs.Types as types;
 ghost use Rattle.name_index.specs.Tables.{names_in, struct_names, field_names, function_names};
 
 use crate::names::names_of;
-use c_tree::{
-    Define, Field, Function, Index, Meaning, Name, Named, Program, Struct, at_number,
-};
+use c_tree::{Define, Field, Function, Index, Meaning, Name, Named, Program, Struct, at_number};
 use std::alloc::{AllocError, Global};
 use std::marker::Model;
 

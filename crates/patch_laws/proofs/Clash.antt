@@ -17,10 +17,12 @@ use Rattle.c_tree.specs.Step.{function_of}
 use Rattle.c_tree.specs.Names.{find_name, names_in, slot_names, struct_of, same_number}
 use Rattle.c_tree.specs.Points.{is_kind, place_of}
 use Rattle.c_tree.specs.Link.{Link}
-use Rattle.c_tree.specs.Entries.{new_number, lifted_entry, same_side, clash}
+use Rattle.c_tree.specs.Causes.{same_side, clash}
 use Rattle.c_tree.specs.Sound.{numbers_clash}
+use Rattle.c_tree.specs.Chain.{new_number, lifted_entry}
 use Rattle.patch_laws.proofs.Numbers.{same_found, same_place}
 use Rattle.patch_laws.proofs.LiftedForms.{there_known, same_ok, MatchForm, FieldForm, InitForm, PointForm, EntryForm, entry_form}
+use Rattle.c_tree.proofs.BoolLemmas.{and_same}
 
 -- it does not matter which of two entries is the first
 pub eqb_swapped : (a b : ℕ) → (a == b) ≡ (b == a)
@@ -60,11 +62,6 @@ clash_swapped (l.Check x) (l.Field t b y) = refl
 clash_swapped (l.Check x) (l.Init b y) = refl
 clash_swapped (l.Check x) (l.Point g r s y) = refl
 clash_swapped (l.Check x) (l.Check y) = refl
-
--- a second part counts only where the first holds
-pub and_same : (s t u v : Bool) → s ≡ t → (s ≡ true → u ≡ v) → (s && u) ≡ (t && v)
-and_same true t u v e f = f refl ∙ ap (λ z. z && v) e
-and_same false t u v e f = ap (λ z. z && v) e
 
 and_grouped : (a b c : Bool) → (a && b && c) ≡ (a && (b && c))
 and_grouped true b c = refl

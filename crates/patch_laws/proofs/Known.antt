@@ -7,11 +7,14 @@ use Rattle.c_tree.specs.declared.cause.EntryCause.{EntryCause}
 use Rattle.c_tree.specs.declared.mapping.Entry.{Entry}
 use Rattle.c_tree.specs.declared.mapping.LEntry.{LEntry}
 use Rattle.c_tree.specs.Link.{Link}
-use Rattle.c_tree.specs.Entries.{lifted_entry, clash, sound_entry, with_number, all_entries}
+use Rattle.c_tree.specs.Causes.{clash}
+use Rattle.c_tree.specs.Entries.{sound_entry, with_number, all_entries}
 use Rattle.c_tree.specs.Sound.{numbers_clash}
+use Rattle.c_tree.specs.Chain.{lifted_entry}
 use Rattle.patch_laws.proofs.Sorting.{any_pair}
 use Rattle.patch_laws.proofs.LiftedForms.{onward_known, refuse_known, same_ok}
 use Rattle.patch_laws.proofs.Clash.{clash_swapped, AllLift, clashes_by_numbers}
+use Rattle.patch_laws.proofs.AskedInOrder.{asked_in_order}
 
 numbered_known : (i : ℕ) (r : Result LEntry EntryCause) (y : LEntry) → with_number i r ≡ Ok y → r ≡ Ok y
 numbered_known i (Ok x) y e = ap (λ z. Ok z) (same_ok x y e)
@@ -30,7 +33,7 @@ pub first_known : (k : Link) (i : ℕ) (earlier : List Entry) (x : Entry) (rest 
 first_known k i earlier x rest es w =
     let s = onward_known _ _ es w in
     let ys = onward_known _ _ es s.2 in
-    let y = onward_known _ _ s.0 (numbered_known i (sound_entry k earlier x) s.0 s.1) in
+    let y = onward_known _ _ s.0 (asked_in_order k earlier x ∙ numbered_known i (sound_entry k earlier x) s.0 s.1) in
     let q = refuse_known _ _ _ s.0 y.2 in
     record { first = s.0; others = ys.0; lifts = y.1 ∙ q.1; free = q.0; others_lift = ys.1; is = same_ok _ es ys.2 }
 

@@ -1,10 +1,10 @@
--- An unsound entry is answered with the least cause that holds of it.
-use Rattle.std.proofs.Common.{◌≡◌, ℕ, Bool, true, false, not, cond, List, [], ◌∷◌, Option, Some, None, Result, Ok, refl, sym, ◌∙◌, ap, arith}
-use Rattle.std.specs.Prelude.{zero, suc, map, find, ◌==◌, ◌&&◌, ◌||◌, nat_lt, if◌then◌else◌, is_some, slice_get}
+-- The first cause of the chain is the least that holds.
+use Rattle.std.proofs.Common.{◌≡◌, ℕ, Bool, true, false, not, cond, List, [], ◌∷◌, Option, Some, None, Result, Ok, Err, refl, sym, ◌∙◌, ap, arith}
+use Rattle.std.specs.Prelude.{zero, suc, map, ◌==◌, ◌&&◌, ◌||◌, nat_lt, if◌then◌else◌, is_some, slice_get}
 use Rattle.std.specs.Option.{ok_or, option_map, option_and_then}
 use Rattle.std.specs.List.{list_any, AllZip}
 use Rattle.std.proofs.lemmas.Option.{none-some, same_Some}
-use Rattle.std.proofs.lemmas.Bool.{both_ways, eqb-true}
+use Rattle.std.proofs.lemmas.Bool.{both_ways}
 use Rattle.std.proofs.lemmas.Bool.Decides.{nat_tests}
 use Rattle.c_tree.specs.declared.cause.EntryCause.{EntryCause}
 use Rattle.c_tree.specs.declared.cause.EntryCause.TheVariants as c
@@ -24,17 +24,22 @@ use Rattle.c_tree.specs.Scope.{is_same_name}
 use Rattle.c_tree.specs.Layout.{places}
 use Rattle.c_tree.specs.Step.{function_of}
 use Rattle.c_tree.specs.Refusal.{onward, refuse_if}
-use Rattle.c_tree.specs.Names.{is_number, same_number, find_name, names_in, slot_names, struct_of}
+use Rattle.c_tree.specs.Names.{same_number, find_name, names_in, slot_names, struct_of}
 use Rattle.c_tree.specs.Points.{is_kind, place_of, callee_at}
-use Rattle.c_tree.specs.StartForm.{is_start}
 use Rattle.c_tree.specs.Link.{Link, match_at, origin}
 use Rattle.c_tree.specs.MapExpr.{Reads, slots_of, fields_of, reads_of, only_globals, numbered, scalar_type}
 use Rattle.c_tree.specs.Suits.{site, is_call_at, kinds_differ, match_of_callee, callees_differ, start_differs, reads_slots, reads_fields, suits, slot_asked, suits_slot, suits_global, suits_check, has_twice}
-use Rattle.c_tree.specs.Entries.{both, all_there, missing, lifted_match, suited, lifted_fill_at, lifted_fill, clash, sound_entry}
-use Rattle.patch_laws.specs.Causes.{exactly_one, some_passes, has_name, lacks_side, old_function, new_function, lacks_function, has_point, lacks_point, is_call, differs_in_kind, called_at, differs_in_callee, is_main, can_start, differs_in_start, can_fill, type_named, new_struct, fills_badly, has_name_twice, holds, all_causes, cause_of}
+use Rattle.c_tree.specs.Causes.{exactly_one, some_passes, has_name, lacks_side, old_function, new_function, lacks_function, has_point, lacks_point, is_call, differs_in_kind, called_at, differs_in_callee, is_main, can_start, differs_in_start, can_fill, type_named, new_struct, fills_badly, has_name_twice, clash}
+use Rattle.c_tree.specs.Entries.{both, all_there, least_cause}
+use Rattle.c_tree.specs.Chain.{missing, lifted_match, suited, lifted_fill_at, lifted_fill, chain}
 use Rattle.patch_laws.proofs.Numbers.{same_found, found_kind}
 use Rattle.patch_laws.proofs.LiftedForms.{both_known}
-use Rattle.patch_laws.proofs.Clash.{and_same}
+use Rattle.c_tree.proofs.CanMatch.{none_start, some_start}
+
+-- the cause that an answer has
+abbrev pub cause_of : Result LEntry EntryCause → Option EntryCause
+cause_of (Ok x) = None
+cause_of (Err cause) = Some cause
 
 -- the cause of an answer that is refused at last where an earlier entry says the same
 abbrev ends : Bool → Result LEntry EntryCause → Option EntryCause
@@ -164,42 +169,18 @@ twice_named slots (x ∷ xs) (y ∷ ys) r =
     ∙ ap (λ b. list_any (λ z. y.slot == z) (map (λ z. z.slot) ys) || b) (twice_named slots xs ys r.1)
 
 -- match entries
-none_start : (k : Link) (i f : ℕ) (a : List ℕ) → find_name a (names_in k.old i) ≡ Some f → (i == 0 && is_main k.old a) ≡ (i == 0 && start_differs k.old k.new f None)
-none_start k i f a e = and_same (i == 0) (i == 0) (is_main k.old a) (start_differs k.old k.new f None) refl (λ s. known (eqb-true i 0 s)) where
-  whole : (b : Bool) → b ≡ ((if b then true else false) || false)
-  whole true = refl
-  whole false = refl
-
-  known : i ≡ 0 → is_main k.old a ≡ start_differs k.old k.new f None
-  known s = ap (λ o. is_number o k.old.main) (ap (λ z. find_name a (names_in k.old z)) (sym s) ∙ e) ∙ whole (f == k.old.main)
-
-some_start : (k : Link) (i f g : ℕ) (a b : List ℕ) → find_name a (names_in k.old i) ≡ Some f → find_name b (names_in k.new i) ≡ Some g →
-    differs_in_start k (n.Match i a (Some b)) ≡ (i == 0 && start_differs k.old k.new f (Some g))
-some_start k i f g a b e w =
-    and_same (i == 0) (i == 0) (exactly_one (is_main k.old a) (is_main k.new b) || can_start k.old a && not (can_start k.new b)) (start_differs k.old k.new f (Some g)) refl (λ s. known (eqb-true i 0 s))
-  where
-    test : Option ℕ → Option ℕ → Bool
-    test o p =
-        exactly_one (is_number o k.old.main) (is_number p k.new.main)
-        || some_passes (λ f. is_start (function_of k.old f)) o && not (some_passes (λ f. is_start (function_of k.new f)) p)
-
-    known : i ≡ 0 → test (find_name a (names_in k.old 0)) (find_name b (names_in k.new 0)) ≡ start_differs k.old k.new f (Some g)
-    known s =
-        ap (λ o. test o (find_name b (names_in k.new 0))) (ap (λ z. find_name a (names_in k.old z)) (sym s) ∙ e)
-        ∙ ap (λ p. test (Some f) p) (ap (λ z. find_name b (names_in k.new z)) (sym s) ∙ w)
-
 match_ends : (k : Link) (t : Bool) (i : ℕ) (a : List ℕ) (b : Option (List ℕ)) →
-    ends t (lifted_match k.old k.new i a b) ≡ cond (lacks_side k i a b) (Some (missing i)) (cond (differs_in_start k (n.Match i a b)) (Some c.StartDiffers) (cond (t || false) (Some c.Twice) None))
+    ends t (lifted_match k.old k.new i a b) ≡ cond (lacks_side k.old k.new i a b) (Some (missing i)) (cond (differs_in_start k (n.Match i a b)) (Some c.StartDiffers) (cond (t || false) (Some c.Twice) None))
 match_ends k t i a None =
-    after_there (find_name a (names_in k.old i)) (missing i) (λ f. refuse_if (i == 0 && start_differs k.old k.new f None) c.StartDiffers (Ok (l.Match i f None))) t (lacks_side k i a None)
+    after_there (find_name a (names_in k.old i)) (missing i) (λ f. refuse_if (i == 0 && start_differs k.old k.new f None) c.StartDiffers (Ok (l.Match i f None))) t (lacks_side k.old k.new i a None)
     (cond (differs_in_start k (n.Match i a None)) (Some c.StartDiffers) (cond (t || false) (Some c.Twice) None)) refl
     (λ f e. after_test (i == 0 && start_differs k.old k.new f None) c.StartDiffers (Ok (l.Match i f None)) t (differs_in_start k (n.Match i a None)) (cond (t || false) (Some c.Twice) None)
-    (none_start k i f a e) (λ _. at_end t (l.Match i f None)))
+    (none_start k.old k.new i f a e) (λ _. at_end t (l.Match i f None)))
 match_ends k t i a (Some b) =
-    after_sides (find_name a (names_in k.old i)) (find_name b (names_in k.new i)) (missing i) (λ f g. refuse_if (i == 0 && start_differs k.old k.new f g) c.StartDiffers (Ok (l.Match i f g))) t (lacks_side k i a (Some b))
+    after_sides (find_name a (names_in k.old i)) (find_name b (names_in k.new i)) (missing i) (λ f g. refuse_if (i == 0 && start_differs k.old k.new f g) c.StartDiffers (Ok (l.Match i f g))) t (lacks_side k.old k.new i a (Some b))
     (cond (differs_in_start k (n.Match i a (Some b))) (Some c.StartDiffers) (cond (t || false) (Some c.Twice) None)) refl
     (λ f g e w. after_test (i == 0 && start_differs k.old k.new f (Some g)) c.StartDiffers (Ok (l.Match i f (Some g))) t (differs_in_start k (n.Match i a (Some b))) (cond (t || false) (Some c.Twice) None)
-    (some_start k i f g a b e w) (λ _. at_end t (l.Match i f (Some g))))
+    (some_start k.old k.new i f g a b e w) (λ _. at_end t (l.Match i f (Some g))))
 
 -- a match entry names functions, structs, or globals and mutexes
 globals_last : (p q r m d : Bool) (rest : Option EntryCause) → p ≡ false → q ≡ false → r ≡ true →
@@ -220,21 +201,21 @@ is_global : (i : ℕ) → nat_lt 1 (suc (suc i)) ≡ true
 is_global i = grind (arith, nat_tests)
 
 by_kind : (k : Link) (t : Bool) (i : ℕ) (a : List ℕ) (b : Option (List ℕ)) →
-    cond (lacks_side k i a b) (Some (missing i)) (cond (differs_in_start k (n.Match i a b)) (Some c.StartDiffers) (cond (t || false) (Some c.Twice) None))
-    ≡ cond (i == 0 && lacks_side k i a b) (Some c.UnknownFunction) (cond (differs_in_start k (n.Match i a b)) (Some c.StartDiffers)
-    (cond (i == 1 && lacks_side k i a b) (Some c.UnknownStruct) (cond (nat_lt 1 i && lacks_side k i a b) (Some c.UnknownGlobal) (cond (t || false) (Some c.Twice) None))))
+    cond (lacks_side k.old k.new i a b) (Some (missing i)) (cond (differs_in_start k (n.Match i a b)) (Some c.StartDiffers) (cond (t || false) (Some c.Twice) None))
+    ≡ cond (i == 0 && lacks_side k.old k.new i a b) (Some c.UnknownFunction) (cond (differs_in_start k (n.Match i a b)) (Some c.StartDiffers)
+    (cond (i == 1 && lacks_side k.old k.new i a b) (Some c.UnknownStruct) (cond (nat_lt 1 i && lacks_side k.old k.new i a b) (Some c.UnknownGlobal) (cond (t || false) (Some c.Twice) None))))
 by_kind k t zero a b = refl
 by_kind k t (suc zero) a None = refl
 by_kind k t (suc zero) a (Some b) = refl
 by_kind k t (suc (suc i)) a None =
-    globals_last (suc (suc i) == 0) (suc (suc i) == 1) (nat_lt 1 (suc (suc i))) (lacks_side k (suc (suc i)) a None) (is_main k.old a) (cond (t || false) (Some c.Twice) None)
+    globals_last (suc (suc i) == 0) (suc (suc i) == 1) (nat_lt 1 (suc (suc i))) (lacks_side k.old k.new (suc (suc i)) a None) (is_main k.old a) (cond (t || false) (Some c.Twice) None)
     (not_function i) (not_struct i) (is_global i)
 by_kind k t (suc (suc i)) a (Some b) =
-    globals_last (suc (suc i) == 0) (suc (suc i) == 1) (nat_lt 1 (suc (suc i))) (lacks_side k (suc (suc i)) a (Some b))
+    globals_last (suc (suc i) == 0) (suc (suc i) == 1) (nat_lt 1 (suc (suc i))) (lacks_side k.old k.new (suc (suc i)) a (Some b))
     (exactly_one (is_main k.old a) (is_main k.new b) || can_start k.old a && not (can_start k.new b)) (cond (t || false) (Some c.Twice) None) (not_function i) (not_struct i) (is_global i)
 
 match_least : (k : Link) (earlier : List Entry) (i : ℕ) (a : List ℕ) (b : Option (List ℕ)) →
-    cause_of (sound_entry k earlier (n.Match i a b)) ≡ find (holds k earlier (n.Match i a b)) all_causes
+    cause_of (chain k earlier (n.Match i a b)) ≡ least_cause k earlier (n.Match i a b)
 match_least k earlier i a b =
     match_ends k (list_any (clash (n.Match i a b)) earlier) i a b ∙ by_kind k (list_any (clash (n.Match i a b)) earlier) i a b
 
@@ -246,7 +227,7 @@ field_bad k s owner name x e =
     ap (λ o. not (can_fill k (reads_of k.old None (option_and_then (origin k.structs) o)) (type_named (fields_of k.new o) name) x)) e
     ∙ ap (λ z. not z) (slot_filled k (reads_fields k s) (struct_of k.new s).fields x (find_name name (slot_names (struct_of k.new s).fields)))
 
-field_least : (k : Link) (earlier : List Entry) (owner name : List ℕ) (x : Expr) → cause_of (sound_entry k earlier (n.Field owner name x)) ≡ find (holds k earlier (n.Field owner name x)) all_causes
+field_least : (k : Link) (earlier : List Entry) (owner name : List ℕ) (x : Expr) → cause_of (chain k earlier (n.Field owner name x)) ≡ least_cause k earlier (n.Field owner name x)
 field_least k earlier owner name x =
     after_there (new_struct k owner) c.UnknownStruct after_struct t (not (has_name k.new 1 owner)) rest refl
     (λ s e. after_then (find_name name (slot_names (struct_of k.new s).fields)) (filled s) c.BadExpr (λ i y. Ok (l.Field s i y)) t (fills_badly k (n.Field owner name x)) (cond (t || false) (Some c.Twice) None)
@@ -264,7 +245,7 @@ field_least k earlier owner name x =
     rest : Option EntryCause
     rest = cond (fills_badly k (n.Field owner name x)) (Some c.BadExpr) (cond (t || false) (Some c.Twice) None)
 
-init_least : (k : Link) (earlier : List Entry) (name : List ℕ) (x : Expr) → cause_of (sound_entry k earlier (n.Init name x)) ≡ find (holds k earlier (n.Init name x)) all_causes
+init_least : (k : Link) (earlier : List Entry) (name : List ℕ) (x : Expr) → cause_of (chain k earlier (n.Init name x)) ≡ least_cause k earlier (n.Init name x)
 init_least k earlier name x =
     after_there (find_name name (names_in k.new 2)) c.UnknownGlobal (λ g. onward (ok_or (filled g) c.BadExpr) (λ y. Ok (l.Init g y))) t (not (has_name k.new 2 name))
     (cond (fills_badly k (n.Init name x)) (Some c.BadExpr) (cond (t || false) (Some c.Twice) None)) refl
@@ -281,7 +262,7 @@ init_least k earlier name x =
         ap (λ o. not (can_fill k (only_globals k.old) (option_and_then (λ i. scalar_type (slice_get k.new.globals i)) o) x)) e
         ∙ ap (λ z. not z) (suited_some (suits_global k g) (numbered (only_globals k.old) x.kind))
 
-check_least : (k : Link) (earlier : List Entry) (x : Expr) → cause_of (sound_entry k earlier (n.Check x)) ≡ find (holds k earlier (n.Check x)) all_causes
+check_least : (k : Link) (earlier : List Entry) (x : Expr) → cause_of (chain k earlier (n.Check x)) ≡ least_cause k earlier (n.Check x)
 check_least k earlier x =
     after_there (suited (suits_check k) (numbered (only_globals k.old) x.kind)) c.BadExpr (λ y. Ok (l.Check y)) (list_any (clash (n.Check x)) earlier) (fills_badly k (n.Check x))
     (cond (list_any (clash (n.Check x)) earlier || false) (Some c.Twice) None) (ap (λ z. not z) (suited_some (suits_check k) (numbered (only_globals k.old) x.kind)))
@@ -325,7 +306,7 @@ fills_bad k name f g from to xs p q =
     ∙ fills_there k (reads_slots k f) (function_of k.new g).slots xs)
 
 point_least : (k : Link) (earlier : List Entry) (name : List ℕ) (from to : Pt) (xs : List Fill) →
-    cause_of (sound_entry k earlier (n.Point name from to xs)) ≡ find (holds k earlier (n.Point name from to xs)) all_causes
+    cause_of (chain k earlier (n.Point name from to xs)) ≡ least_cause k earlier (n.Point name from to xs)
 point_least k earlier name from to xs =
     after_then (old_function k name) (match_at k.functions) c.UnknownFunction after_functions t (lacks_function k x) after_1 refl
     (λ f g p q. after_both (place_of (function_of k.old f) from) (place_of (function_of k.new g) to) c.UnknownPoint (after_places f g) t (lacks_point k x) after_2
@@ -385,9 +366,9 @@ point_least k earlier name from to xs =
         (λ same. after_test (callees_differ k (site f i) (site g m)) c.CalleeDiffers (after_callee f g i m) t (differs_in_callee k x) after_4 (callee_known k name f g i m from to xs p q e w same)
         (λ _. after_there (values f g) c.BadExpr (after_values f i m) t (fills_badly k x) after_8 (fills_bad k name f g from to xs p q) (λ ys r. at_values f g i m ys r)))
 
-pub least_cause : (k : Link) (earlier : List Entry) (x : Entry) → cause_of (sound_entry k earlier x) ≡ find (holds k earlier x) all_causes
-least_cause k earlier (n.Match i a b) = match_least k earlier i a b
-least_cause k earlier (n.Field owner name x) = field_least k earlier owner name x
-least_cause k earlier (n.Init name x) = init_least k earlier name x
-least_cause k earlier (n.Point name from to xs) = point_least k earlier name from to xs
-least_cause k earlier (n.Check x) = check_least k earlier x
+pub chain_cause : (k : Link) (earlier : List Entry) (x : Entry) → cause_of (chain k earlier x) ≡ least_cause k earlier x
+chain_cause k earlier (n.Match i a b) = match_least k earlier i a b
+chain_cause k earlier (n.Field owner name x) = field_least k earlier owner name x
+chain_cause k earlier (n.Init name x) = init_least k earlier name x
+chain_cause k earlier (n.Point name from to xs) = point_least k earlier name from to xs
+chain_cause k earlier (n.Check x) = check_least k earlier x

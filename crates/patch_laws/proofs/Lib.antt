@@ -6,6 +6,9 @@ pub mod Kept
 -- of one entry that was lifted
 pub mod LiftedForms
 pub mod Clash
+-- of one entry's causes
+pub mod LeastCause
+pub mod AskedInOrder
 -- of all entries
 pub mod Known
 -- links
@@ -13,5 +16,3 @@ pub mod LiftedLink
 pub mod OrderedLink
 -- soundness
 pub mod LiftedSound
--- causes
-pub mod LeastCause

@@ -20,7 +20,8 @@ use Rattle.c_tree.specs.Points.{place_of}
 use Rattle.c_tree.specs.Link.{Link, match_at}
 use Rattle.c_tree.specs.MapExpr.{only_globals, numbered}
 use Rattle.c_tree.specs.Suits.{site, kinds_differ, callees_differ, start_differs, reads_slots, reads_fields, suits_slot, suits_global, suits_check, has_twice}
-use Rattle.c_tree.specs.Entries.{both, all_there, new_number, lifted_match, suited, lifted_field, lifted_init, lifted_check, lifted_fill, lifted_point, lifted_entry}
+use Rattle.c_tree.specs.Entries.{both, all_there}
+use Rattle.c_tree.specs.Chain.{new_number, lifted_match, suited, lifted_field, lifted_init, lifted_check, lifted_fill, lifted_point, lifted_entry}
 
 -- what is there where it goes on to the end
 pub onward_known : {A B E : Type 0} (r : Result A E) (go : A → Result B E) (y : B) → onward r go ≡ Ok y → (x : A) × (r ≡ Ok x) × (go x ≡ Ok y)

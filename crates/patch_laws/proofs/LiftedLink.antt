@@ -9,8 +9,11 @@ use Rattle.c_tree.specs.declared.mapping.Entry.TheVariants as n
 use Rattle.c_tree.specs.declared.mapping.LEntry.{LEntry}
 use Rattle.c_tree.specs.Names.{find_name, names_in}
 use Rattle.c_tree.specs.Link.{Link, Claim, claim_of, matches, link_of, start_alike, any_two}
-use Rattle.c_tree.specs.Entries.{new_number, lifted_match, lifted_entry, clash, side_number, claims_of, all_claims, link_by_names, all_entries, lifted_entries}
+use Rattle.c_tree.specs.Causes.{clash}
+use Rattle.c_tree.specs.Entries.{can_match, side_number, claims_of, all_claims, link_by_names, all_entries, lifted_entries}
+use Rattle.c_tree.specs.Chain.{new_number, lifted_match, lifted_entry}
 use Rattle.patch_laws.proofs.LiftedForms.{there_known, same_ok, MatchForm, match_form, entry_form}
+use Rattle.c_tree.proofs.CanMatch.{match_passes}
 use Rattle.patch_laws.proofs.Known.{first_known}
 
 -- what entries by numbers name in one kind
@@ -29,10 +32,10 @@ match_claim : (old new : Lifted) (kind i : ℕ) (a : List ℕ) (b : Option (List
     list_any (clash (n.Match i a b)) earlier ≡ false → claims_of old new kind earlier (n.Match i a b) ≡ claim_of kind y
 match_claim old new kind i a b earlier y w free = pick (match_form old new i a b y w) where
   stands : ℕ → Bool
-  stands z = is_ok (lifted_match old new z a b) && not (list_any (clash (n.Match i a b)) earlier)
+  stands z = can_match old new z a b && not (list_any (clash (n.Match i a b)) earlier)
 
   sure : stands i ≡ true
-  sure = and_from (is_ok (lifted_match old new i a b)) (not (list_any (clash (n.Match i a b)) earlier)) (ap (λ r. is_ok r) w) (not_from_false (list_any (clash (n.Match i a b)) earlier) free)
+  sure = and_from (can_match old new i a b) (not (list_any (clash (n.Match i a b)) earlier)) (sym (match_passes old new i a b) ∙ ap (λ r. is_ok r) w) (not_from_false (list_any (clash (n.Match i a b)) earlier) free)
 
   said : (z : ℕ) → Claim
   said z = record { old = find_name a (names_in old z); new = side_number z new b; stands = stands z }

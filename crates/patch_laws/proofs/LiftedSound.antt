@@ -27,10 +27,11 @@ use Rattle.c_tree.specs.Points.{is_kind, kind_in, place_of}
 use Rattle.c_tree.specs.Link.{Link, link_of, match_at}
 use Rattle.c_tree.specs.MapExpr.{Reads, only_globals, numbered}
 use Rattle.c_tree.specs.Suits.{site, kinds_differ, callees_differ, start_differs, reads_slots, reads_fields, suits_slot, suits_global, suits_check, has_twice}
-use Rattle.c_tree.specs.Entries.{all_there, new_number, suited, lifted_fill_at, lifted_fill, lifted_entry, link_by_names, lifted_entries}
+use Rattle.c_tree.specs.Entries.{all_there, link_by_names, lifted_entries}
 use Rattle.c_tree.specs.Sound.{below, sound_place, slots_of_match, sound_fills, is_sound_entry, numbers_clash, are_sound, Sound}
 use Rattle.c_tree.specs.Canonical.{fills_in_order, with_fills_in_order, canonical}
 use Rattle.c_tree.specs.MapForm.{IsReadPoint, IsReadEntry, HasMapForm}
+use Rattle.c_tree.specs.Chain.{new_number, suited, lifted_fill_at, lifted_fill, lifted_entry}
 use Rattle.patch_laws.proofs.Sorting.{any_pair, sorted_all, sorted_pairs}
 use Rattle.patch_laws.proofs.Numbers.{number_within, found_kind}
 use Rattle.patch_laws.proofs.Kept.{entry_before}

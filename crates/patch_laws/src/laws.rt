@@ -1,7 +1,7 @@
-//! What holds of a mapping's entries once they are lifted and in order.
+//! What holds of a mapping's entries: their causes, and what they are once they are lifted and in
+//! order.
 
-ghost use Rattle.patch_laws.specs.Causes.{CausesAreLeast};
-ghost use Rattle.patch_laws.specs.Laws.{LiftedEntriesAreSound, CanonicalIsKept};
+ghost use Rattle.patch_laws.specs.Laws.{LiftedEntriesAreSound, CanonicalIsKept, CausesAreAskedInOrder, SoundEntriesHaveNumbers};
 
 /// Where each entry of a mapping that was read lifts to numbers, the entries in their canonical
 /// order are sound.
@@ -14,8 +14,13 @@ pub fn canonical_is_kept()
     ensures { CanonicalIsKept }
 {}
 
-/// The cause that an unsound entry is answered with is the least of all that hold of it, and where
-/// none holds the entry lifts.
-pub fn causes_are_least()
-    ensures { CausesAreLeast }
+/// Where the causes of an entry are asked in ascending order, the first that is found is the least
+/// of all that hold of it, and an entry that passes is the one by numbers.
+pub fn causes_are_asked_in_order()
+    ensures { CausesAreAskedInOrder }
+{}
+
+/// An entry of which no cause holds has numbers.
+pub fn sound_entries_have_numbers()
+    ensures { SoundEntriesHaveNumbers }
 {}

@@ -17,7 +17,10 @@ use Rattle.c_tree.specs.Refusal.{onward, refuse_if}
 use Rattle.c_tree.specs.Names.{is_number, find_name, names_in}
 use Rattle.c_tree.specs.Link.{Claim}
 use Rattle.c_tree.specs.Suits.{start_differs}
-use Rattle.c_tree.specs.Entries.{missing, new_number, lifted_match, same_side, clash, side_number, claims_of, all_claims}
+use Rattle.c_tree.specs.Causes.{same_side, clash}
+use Rattle.c_tree.specs.Entries.{can_match, side_number, claims_of, all_claims}
+use Rattle.c_tree.specs.Chain.{missing, new_number, lifted_match}
+use Rattle.c_tree.proofs.CanMatch.{match_passes}
 use Rattle.patch_match.specs.declared.sides.Sides.{Sides}
 use Rattle.patch_match.specs.Sides.{Tells, said_by, said_in}
 use Rattle.patch_match.specs.Matching.{TellsOf, is_said, old_is_taken, new_is_taken, is_taken, claim_beside}
@@ -174,10 +177,11 @@ claimed old new kind s es a b h =
     ap (λ t. if t then record {
       old = find_name a (names_in old kind);
       new = side_number kind new b;
-      stands = is_ok (lifted_match old new kind a b) && not (list_any (clash (n.Match kind a b)) (pushed [] es));
+      stands = can_match old new kind a b && not (list_any (clash (n.Match kind a b)) (pushed [] es));
     } ∷ [] else []) (eq-eqb kind kind refl)
     ∙ ap (λ t. let x : Claim = record { old = find_name a (names_in old kind); new = side_number kind new b; stands = t } in x ∷ [])
-    (sym (taken old new kind s es a b h (find_name a (names_in old kind)) (side_number kind new b) refl refl))
+    (ap (λ t. t && not (list_any (clash (n.Match kind a b)) (pushed [] es))) (sym (match_passes old new kind a b))
+    ∙ sym (taken old new kind s es a b h (find_name a (names_in old kind)) (side_number kind new b) refl refl))
 
 -- a match entry of the kind is noted
 pub noted : (old new : Lifted) (kind i : ℕ) (s t : Sides) (es : List Entry) (a : List ℕ) (b : Option (List ℕ)) → i ≡ kind → TellsOf s kind old new es →
@@ -202,7 +206,7 @@ other_kind old new kind i acc a b h =
     ap (λ t. if t then record {
       old = find_name a (names_in old kind);
       new = side_number kind new b;
-      stands = is_ok (lifted_match old new kind a b) && not (list_any (clash (n.Match i a b)) acc);
+      stands = can_match old new kind a b && not (list_any (clash (n.Match i a b)) acc);
     } ∷ [] else []) (pick (i == kind) refl) where
       pick : (t : Bool) → t ≡ (i == kind) → (i == kind) ≡ false
       pick true e = absurd (h (eqb-true i kind (sym e)))

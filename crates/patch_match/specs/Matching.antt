@@ -6,7 +6,8 @@ use Rattle.c_tree.specs.declared.mapping.LEntry.{LEntry}
 use Rattle.c_tree.specs.Names.{find_name, names_in}
 use Rattle.std.specs.List.{flat_map}
 use Rattle.c_tree.specs.Link.{Claim, claim_of, start_alike, any_two, matches}
-use Rattle.c_tree.specs.Entries.{all_claims, lifted_match, side_number}
+use Rattle.c_tree.specs.Entries.{all_claims, side_number}
+use Rattle.c_tree.specs.Chain.{lifted_match}
 use Rattle.patch_match.specs.declared.sides.Said.{Said}
 use Rattle.patch_match.specs.declared.sides.Said.TheVariants.{Nothing, Named, Matched}
 use Rattle.patch_match.specs.declared.sides.Sides.{Sides}

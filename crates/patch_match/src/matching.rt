@@ -5,6 +5,7 @@ ghost use Rattle.c_tree.specs.declared.mapping.Entry.{Entry};
 ghost use Rattle.c_tree.specs.Link.{Claim};
 ghost use Rattle.c_tree.specs.Names.{find_name, names_in};
 ghost use Rattle.c_tree.specs.Entries as entries;
+ghost use Rattle.c_tree.specs.Chain as chain;
 ghost use Rattle.patch_match.specs.Sides as sides;
 ghost use Rattle.patch_match.specs.Matching as spec;
 ghost use Rattle.patch_match.specs.declared.sides.Said.TheVariants.{Nothing};
@@ -17,7 +18,7 @@ use std::alloc::{AllocError, Global};
 
 /// Why a match entry of a kind is unsound that names what is not there.
 fn missing(kind: u8) -> EntryCause
-    ensures { result ≡ entries.missing kind }
+    ensures { result ≡ chain.missing kind }
 {
     match kind {
         0 => EntryCause::UnknownFunction,
@@ -28,7 +29,7 @@ fn missing(kind: u8) -> EntryCause
 
 /// `none`, or the number of a new side.
 fn new_number(kind: u8, new: &Tables<'_>, name: &Option<Name>) -> Result<Option<u32>, EntryCause>
-    ensures { result ≡ entries.new_number kind new.now name.now }
+    ensures { result ≡ chain.new_number kind new.now name.now }
 {
     match name {
         None => Ok(None),
@@ -47,7 +48,7 @@ pub fn lifted_match(
     a: &Name,
     b: &Option<Name>,
 ) -> Result<LEntry, EntryCause>
-    ensures { result ≡ entries.lifted_match old.now new.now kind a.now b.now }
+    ensures { result ≡ chain.lifted_match old.now new.now kind a.now b.now }
 {
     let i = match old.number(kind, a) {
         Some(i) => i,

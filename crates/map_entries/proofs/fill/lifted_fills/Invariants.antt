@@ -2,7 +2,8 @@ use Rattle.std.proofs.Common.{◌≡◌, ◌++◌, drop, map}
 use Rattle.std.specs.Option.{option_map}
 use Rattle.c_tree.specs.Step.{function_of}
 use Rattle.c_tree.specs.Suits.{reads_slots}
-use Rattle.c_tree.specs.Entries.{all_there, lifted_fill}
+use Rattle.c_tree.specs.Entries.{all_there}
+use Rattle.c_tree.specs.Chain.{lifted_fill}
 use Rattle.map_entries.proofs.fill.lifted_fills.Given as goal
 
 -- what is lifted so far, and what is left

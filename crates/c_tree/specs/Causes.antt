@@ -1,5 +1,5 @@
 -- Why an entry of a mapping is unsound: what each cause says, by itself.
-use Rattle.std.specs.Prelude.{◌≡◌, ℕ, Bool, false, not, ◌&&◌, ◌||◌, ◌==◌, nat_lt, if◌then◌else◌, List, [], ◌∷◌, map, find, slice_get, is_some, Option, Some, None, Result, Ok, Err}
+use Rattle.std.specs.Prelude.{ℕ, Bool, false, not, ◌&&◌, ◌||◌, ◌==◌, nat_lt, if◌then◌else◌, List, [], ◌∷◌, map, slice_get, is_some, Option, Some, None}
 use Rattle.std.specs.Option.{option_and_then}
 use Rattle.std.specs.List.{list_any}
 use Rattle.c_tree.specs.declared.cause.EntryCause.{EntryCause}
@@ -12,7 +12,6 @@ use Rattle.c_tree.specs.declared.place.PlaceKind.TheVariants as kind
 use Rattle.c_tree.specs.declared.mapping.Pt.{Pt}
 use Rattle.c_tree.specs.declared.mapping.Entry.{Entry}
 use Rattle.c_tree.specs.declared.mapping.Entry.TheVariants as n
-use Rattle.c_tree.specs.declared.mapping.LEntry.{LEntry}
 use Rattle.c_tree.specs.Scope.{is_same_name}
 use Rattle.c_tree.specs.Step.{function_of}
 use Rattle.c_tree.specs.Names.{is_number, same_number, find_name, names_in, slot_names}
@@ -21,7 +20,6 @@ use Rattle.c_tree.specs.StartForm.{is_start}
 use Rattle.c_tree.specs.Link.{Link, match_at, origin}
 use Rattle.c_tree.specs.MapExpr.{Reads, slots_of, fields_of, reads_of, only_globals, numbered, scalar_type}
 use Rattle.c_tree.specs.Suits.{match_of_callee, suits, slot_asked, suits_check}
-use Rattle.c_tree.specs.Entries.{clash, sound_entry}
 
 -- exactly one of two holds
 abbrev pub exactly_one : Bool → Bool → Bool
@@ -37,9 +35,9 @@ abbrev pub has_name : Lifted → ℕ → List ℕ → Bool
 has_name p kind name = is_some (find_name name (names_in p kind))
 
 -- a side of a match entry is not there; `none` is no side
-abbrev pub lacks_side : Link → ℕ → List ℕ → Option (List ℕ) → Bool
-lacks_side k kind a None = not (has_name k.old kind a)
-lacks_side k kind a (Some b) = not (has_name k.old kind a && has_name k.new kind b)
+abbrev pub lacks_side : Lifted → Lifted → ℕ → List ℕ → Option (List ℕ) → Bool
+lacks_side old new kind a None = not (has_name old kind a)
+lacks_side old new kind a (Some b) = not (has_name old kind a && has_name new kind b)
 
 -- the number of an old function by its name
 abbrev pub old_function : Link → List ℕ → Option ℕ
@@ -51,7 +49,7 @@ new_function k name = option_and_then (match_at k.functions) (old_function k nam
 
 -- a function's name is not there, or a place is mapped of an old function that has no match
 abbrev pub lacks_function : Link → Entry → Bool
-lacks_function k (n.Match i a b) = i == 0 && lacks_side k i a b
+lacks_function k (n.Match i a b) = i == 0 && lacks_side k.old k.new i a b
 lacks_function k (n.Point f from to fills) = not (is_some (new_function k f))
 lacks_function k _ = false
 
@@ -92,20 +90,24 @@ abbrev pub can_start : Lifted → List ℕ → Bool
 can_start p name = some_passes (λ f. is_start (function_of p f)) (find_name name (names_in p 0))
 
 -- exactly one side is `main`, or what a thread can be started with goes to what none can be started with; `none` is no function
+abbrev pub breaks_start : Lifted → Lifted → ℕ → List ℕ → Option (List ℕ) → Bool
+breaks_start old new kind a None = kind == 0 && is_main old a
+breaks_start old new kind a (Some b) = kind == 0 && (exactly_one (is_main old a) (is_main new b) || can_start old a && not (can_start new b))
+
+-- a match entry breaks a start
 abbrev pub differs_in_start : Link → Entry → Bool
-differs_in_start k (n.Match i a None) = i == 0 && is_main k.old a
-differs_in_start k (n.Match i a (Some b)) = i == 0 && (exactly_one (is_main k.old a) (is_main k.new b) || can_start k.old a && not (can_start k.new b))
+differs_in_start k (n.Match i a b) = breaks_start k.old k.new i a b
 differs_in_start k _ = false
 
 -- a struct's name is not there
 abbrev pub lacks_struct : Link → Entry → Bool
-lacks_struct k (n.Match i a b) = i == 1 && lacks_side k i a b
+lacks_struct k (n.Match i a b) = i == 1 && lacks_side k.old k.new i a b
 lacks_struct k (n.Field owner name x) = not (has_name k.new 1 owner)
 lacks_struct k _ = false
 
 -- a global's or a mutex's name is not there
 abbrev pub lacks_global : Link → Entry → Bool
-lacks_global k (n.Match i a b) = nat_lt 1 i && lacks_side k i a b
+lacks_global k (n.Match i a b) = nat_lt 1 i && lacks_side k.old k.new i a b
 lacks_global k (n.Init name x) = not (has_name k.new 2 name)
 lacks_global k _ = false
 
@@ -148,6 +150,19 @@ abbrev pub fills_twice : Entry → Bool
 fills_twice (n.Point f from to values) = has_name_twice (map (λ x. x.slot) values)
 fills_twice _ = false
 
+-- two new sides are there and have one name
+abbrev pub same_side : Option (List ℕ) → Option (List ℕ) → Bool
+same_side (Some a) (Some b) = is_same_name a b
+same_side _ _ = false
+
+-- two entries name one old side, new side, old place, field or scalar
+abbrev pub clash : Entry → Entry → Bool
+clash (n.Match i a b) (n.Match j x y) = i == j && (is_same_name a x || same_side b y)
+clash (n.Field s a _) (n.Field t b _) = is_same_name s t && is_same_name a b
+clash (n.Init a _) (n.Init b _) = is_same_name a b
+clash (n.Point f p _ _) (n.Point g q _ _) = is_same_name f g && is_kind p.kind q.kind && p.number == q.number
+clash _ _ = false
+
 -- what an entry names an earlier one names too, or it fills one slot twice
 abbrev pub says_again : List Entry → Entry → Bool
 says_again earlier x = list_any (clash x) earlier || fills_twice x
@@ -168,12 +183,3 @@ holds k earlier x c.Twice = says_again earlier x
 abbrev pub all_causes : List EntryCause
 all_causes =
     c.UnknownFunction ∷ c.UnknownPoint ∷ c.KindDiffers ∷ c.CalleeDiffers ∷ c.StartDiffers ∷ c.UnknownStruct ∷ c.UnknownGlobal ∷ c.BadExpr ∷ c.Twice ∷ []
-
--- the cause that an answer has
-abbrev pub cause_of : Result LEntry EntryCause → Option EntryCause
-cause_of (Ok x) = None
-cause_of (Err cause) = Some cause
-
--- an unsound entry is answered with the least of all causes that hold of it, and an entry of which none holds is sound
-abbrev pub CausesAreLeast : Type 0
-CausesAreLeast = (k : Link) (earlier : List Entry) (x : Entry) → cause_of (sound_entry k earlier x) ≡ find (holds k earlier x) all_causes
