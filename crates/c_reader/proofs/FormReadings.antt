@@ -3,6 +3,7 @@ use Rattle.std.specs.Prelude.{List, [], ◌∷◌, ◌++◌, Bool, true, false, 
 use Rattle.std.proofs.Common.{◌≡◌, Option, Some, None, refl, sym, ◌∙◌, ap, subst}
 use Rattle.c_tree.specs.declared.program.Program.{Program}
 use Rattle.c_tree.specs.ReadForm.{HasReadForm}
+use Rattle.c_reader.specs.Spelling.{IsTreeSpelt}
 use Rattle.c_grammar.specs.declared.symbol.Symbol.{Symbol}
 use Rattle.c_grammar.specs.declared.symbol.Symbol.TheVariants.{Take, Unless, Act, Expand}
 use Rattle.c_grammar.specs.declared.value.Value.{Value}
@@ -108,5 +109,5 @@ goes_formed w (expand {r = r} {alternative = front} {symbols = behind} {state = 
     goes_formed w g (expands front behind t.0 state.values (each_among (λ x. ends_in (run x (t.0).finds) (t.0).leaves) front (alternatives r) m t.1) t.2 t.3)
 
 -- What a whole file leaves has the form.
-pub reading_formed : (ps : List Piece) (read : Program) → AllNamed ps → Goes alternatives (Whole (value.Program read ∷ [])) start empty ps → HasReadForm read
+pub reading_formed : (ps : List Piece) (read : Program) → AllNamed ps → Goes alternatives (Whole (value.Program read ∷ [])) start empty ps → HasReadForm read × IsTreeSpelt read
 reading_formed ps read w g = goes_formed w g (record { finds = form.Program ∷ []; leaves = form.Program ∷ [] }, refl, (no_parts, tt), λ ws f p. f.0)

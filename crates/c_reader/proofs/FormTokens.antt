@@ -1,8 +1,9 @@
 -- A token is kept with the form of its kind.
 use Rattle.std.specs.Prelude.{◌≡◌, ℕ, List, [], ◌∷◌, map, true}
+use Rattle.std.proofs.Common.{refl}
 use Rattle.c_tree.specs.declared.token.TokenKind.{TokenKind}
 use Rattle.c_tree.specs.declared.token.TokenKind.TheVariants as token
-use Rattle.c_tree.specs.ReadForm.{IsName}
+use Rattle.c_reader.specs.Spelling.{IsWord}
 use Rattle.c_tokens.specs.declared.lexeme.Lexeme.{Lexeme}
 use Rattle.c_tokens.specs.declared.lexeme.LexemeKind.{LexemeKind}
 use Rattle.c_tokens.specs.declared.lexeme.LexemeKind.TheVariants as lexeme
@@ -15,12 +16,13 @@ use Rattle.c_grammar.specs.Pieces.{piece_of, lexeme_piece}
 use Rattle.c_reader.proofs.Kept.{is_plain, word_plain, is_nameless, sign_nameless}
 use Rattle.c_reader.proofs.Forms.{Has, kept_form}
 use Rattle.c_reader.proofs.FormReadings.{AllNamed}
-use Rattle.c_reader.proofs.Names.{TokenNamed, LexemeNamed, AreNamed}
+use Rattle.c_reader.proofs.Names.{TokenNamed, LexemeNamed, AreNamed, word_spelt}
 
-word_kept : (k : Kind) (w : List ℕ) (at len : ℕ) (vs : List Value) → is_plain k ≡ true → IsName w → Has (kept_form k) (value.Word (record { kind = token.Word w; at = at; len = len }) ∷ vs)
-word_kept kind.Define w at len vs h i = cc
-word_kept kind.Name w at len vs h i = i
-word_kept k w at len vs h i = tt
+word_kept : (k : Kind) (w : List ℕ) (at len : ℕ) (vs : List Value) → is_plain k ≡ true → IsWord w → word_kind w ≡ k
+    → Has (kept_form k) (value.Word (record { kind = token.Word w; at = at; len = len }) ∷ vs)
+word_kept kind.Define w at len vs h i e = cc
+word_kept kind.Name w at len vs h i e = word_spelt w i e
+word_kept k w at len vs h i e = tt
 
 sign_kept : (k : Kind) (vs : List Value) → is_nameless k ≡ true → Has (kept_form k) vs
 sign_kept kind.Define vs h = cc
@@ -28,7 +30,7 @@ sign_kept kind.Name vs h = cc
 sign_kept k vs h = tt
 
 token_kept : (k : TokenKind) (at len : ℕ) (vs : List Value) → TokenNamed k → Has (kept_form (kind_of k)) (value.Word (record { kind = k; at = at; len = len }) ∷ vs)
-token_kept (token.Word w) at len vs h = word_kept (word_kind w) w at len vs (word_plain w) h
+token_kept (token.Word w) at len vs h = word_kept (word_kind w) w at len vs (word_plain w) h refl
 token_kept (token.Punct place) at len vs h = sign_kept (sign_kind place) _ (sign_nameless place)
 token_kept (token.Number n) at len vs h = tt
 token_kept (token.Char c) at len vs h = tt

@@ -13,6 +13,8 @@ use Rattle.c_grammar.specs.declared.action.Action.TheVariants as action
 use Rattle.c_grammar.specs.declared.value.Value.{Value}
 use Rattle.c_grammar.specs.Values.{older, ty_in, operand_in, exprs_in, maybe_expr_in, stmt_in, stmts_in, maybe_stmt_in, fields_in, define_in, program_in}
 use Rattle.c_grammar.specs.Effects.{text}
+use Rattle.c_tree.specs.Scope.{locals, locals_of}
+use Rattle.c_reader.specs.Spelling.{IsSpelt, AreLocalsSpelt, AreFieldsSpelt, IsTreeSpelt}
 
 pub data Form : Type 0 where
   Any : Form
@@ -46,7 +48,7 @@ IsStep (Some x) = IsSimple x.kind × IsReadStmt x.kind
 -- The newest value has this form. Of most words, counts and constants nothing is asked.
 abbrev pub Has : Form → List Value → Type 0
 Has Any vs = ⊤
-Has Name vs = IsName (text vs)
+Has Name vs = IsSpelt (text vs)
 Has Define vs = IsName (define_in vs).name.it
 Has ValueTy vs = IsValueType (ty_in vs)
 Has Pointer vs = IsCastType (ty_in vs)
@@ -55,15 +57,15 @@ Has Place vs = IsPlace (kind_in vs) × IsReadExpr (kind_in vs)
 Has Call vs = IsCall (kind_in vs) × IsReadExpr (kind_in vs)
 Has Exprs vs = All (λ x. IsReadExpr x.kind) (exprs_in vs)
 Has MaybeExpr vs = IsReadValue (maybe_expr_in vs)
-Has Statement vs = IsNoDeclaration (stmt_in vs).kind × IsReadStmt (stmt_in vs).kind
+Has Statement vs = IsNoDeclaration (stmt_in vs).kind × IsReadStmt (stmt_in vs).kind × AreLocalsSpelt (locals (stmt_in vs).kind)
 Has Simple vs = IsSimple (stmt_in vs).kind × IsReadStmt (stmt_in vs).kind
 Has Step vs = IsStep (maybe_stmt_in vs)
 Has NoStmts vs = stmts_in vs ≡ []
-Has Declarations vs = AreDeclarations (row_of (stmts_in vs)) × AreReadStmts (row_of (stmts_in vs))
-Has Starts vs = IsStart (row_of (stmts_in vs)) × AreReadStmts (row_of (stmts_in vs))
-Has Stmts vs = AreReadStmts (row_of (stmts_in vs))
-Has Fields vs = All IsReadField (fields_in vs)
-Has Program vs = HasReadForm (program_in vs)
+Has Declarations vs = AreDeclarations (row_of (stmts_in vs)) × AreReadStmts (row_of (stmts_in vs)) × AreLocalsSpelt (locals_of (row_of (stmts_in vs)))
+Has Starts vs = IsStart (row_of (stmts_in vs)) × AreReadStmts (row_of (stmts_in vs)) × AreLocalsSpelt (locals_of (row_of (stmts_in vs)))
+Has Stmts vs = AreReadStmts (row_of (stmts_in vs)) × AreLocalsSpelt (locals_of (row_of (stmts_in vs)))
+Has Fields vs = All IsReadField (fields_in vs) × AreFieldsSpelt (fields_in vs)
+Has Program vs = HasReadForm (program_in vs) × IsTreeSpelt (program_in vs)
 
 -- the values in front have these forms, newest first
 abbrev pub Fits : List Form → List Value → Type 0

@@ -1,15 +1,18 @@
 mod KindNumbers
-mod Choice
-mod LeftOut
-mod Tables
-mod Turns
+pub mod Choice
+pub mod LeftOut
+pub mod Tables
+pub mod Turns
 mod Factoring
 mod Sorts
 mod SortRuns
 mod SortTables
 pub mod Trees
-mod Depths
+pub mod Depths
 pub mod Outcomes
+pub mod Keeps
+pub mod Limits
+pub mod Bounded
 pub mod Kept
 pub mod Sources
 pub mod Answered
@@ -23,4 +26,5 @@ mod FormEffects
 mod FormReadings
 mod Names
 mod FormTokens
-mod Formed
+pub mod Formed
+pub mod Spelling

@@ -4,10 +4,13 @@ use Rattle.std.specs.List.{list_all, starts_with, AllByRecursion}
 use Rattle.std.specs.Cmp.Lexicographic.{pointwise}
 use Rattle.std.proofs.Common.{◌≡◌, refl, sym, ap, subst, arith}
 use Rattle.c_tree.specs.declared.cause.ReadCause.{ReadCause}
+use Rattle.c_tree.specs.declared.cause.ReadCause.TheVariants as cause
 use Rattle.c_tree.specs.declared.token.TokenKind.{TokenKind}
 use Rattle.c_tree.specs.declared.token.TokenKind.TheVariants as token
 use Rattle.c_tree.specs.declared.program.At.{At}
 use Rattle.c_tree.specs.ReadForm.{IsName, is_name_byte}
+use Rattle.c_reader.specs.Spelling.{IsWord, IsSpelt}
+use Rattle.c_reader.proofs.Choice.{both_left, both_right}
 use Rattle.c_tokens.specs.declared.class.Class.{Class}
 use Rattle.c_tokens.specs.declared.class.Class.TheVariants as class
 use Rattle.c_tokens.specs.declared.quoted.Quoted.{Quoted}
@@ -26,6 +29,8 @@ use Rattle.c_tokens.specs.declared.piece.Piece.{Piece}
 use Rattle.c_tokens.specs.declared.piece.Piece.TheVariants as piece
 use Rattle.c_tokens.specs.Byte.{is_blank, is_digit, is_letter, is_within, class_of, name_run}
 use Rattle.c_tokens.specs.Byte as byte
+use Rattle.c_grammar.specs.declared.kind.Kind.TheVariants as kind
+use Rattle.c_grammar.specs.Tokens.{word_kind}
 use Rattle.c_tokens.specs.Literal.{literal}
 use Rattle.c_tokens.specs.Quoted.{constant}
 use Rattle.c_tokens.specs.Operator.{longest}
@@ -43,7 +48,7 @@ chosen P false a b h i = i
 
 -- Of a token, a line and a piece: each name in it is one.
 abbrev pub TokenNamed : TokenKind → Type 0
-TokenNamed (token.Word w) = IsName w
+TokenNamed (token.Word w) = IsWord w
 TokenNamed k = ⊤
 
 abbrev FrontNamed : Front → Type 0
@@ -85,19 +90,13 @@ both_true false y h i = cc
 one_more : (n : ℕ) → suc n ≡ 1 + n
 one_more n = omega arith
 
-all_name_bytes : (bytes : List ℕ) → list_all is_name_byte (take (name_run bytes) bytes) ≡ true
+all_name_bytes : (bytes : List ℕ) → list_all byte.is_name_byte (take (name_run bytes) bytes) ≡ true
 all_name_bytes [] = refl
 all_name_bytes (b ∷ rest) = go (byte.is_name_byte b) refl (all_name_bytes rest)
   where
-    go : (t : Bool) → byte.is_name_byte b ≡ t → list_all is_name_byte (take (name_run rest) rest) ≡ true → list_all is_name_byte (take (cond t (1 + name_run rest) 0) (b ∷ rest)) ≡ true
-    go true h more = subst (λ n. list_all is_name_byte (take n (b ∷ rest)) ≡ true) (one_more (name_run rest)) (both_true (is_name_byte b) _ (name_byte b h) more)
+    go : (t : Bool) → byte.is_name_byte b ≡ t → list_all byte.is_name_byte (take (name_run rest) rest) ≡ true → list_all byte.is_name_byte (take (cond t (1 + name_run rest) 0) (b ∷ rest)) ≡ true
+    go true h more = subst (λ n. list_all byte.is_name_byte (take n (b ∷ rest)) ≡ true) (one_more (name_run rest)) (both_true (byte.is_name_byte b) _ h more)
     go false h more = refl
-
-word_is_name : (b : ℕ) (rest : List ℕ) → is_letter b ≡ true → IsName (take (name_run (b ∷ rest)) (b ∷ rest))
-word_is_name b rest h =
-    let e : byte.is_name_byte b ≡ true = letter_byte b h in
-    subst (λ t. IsName (take (cond t (1 + name_run rest) 0) (b ∷ rest))) (sym e)
-    (subst (λ n. IsName (take n (b ∷ rest))) (one_more (name_run rest)) (both_true (is_name_byte b) _ (name_byte b e) (all_name_bytes rest)))
 
 letter_class : (b : ℕ) → class_of b ≡ class.Letter → is_letter b ≡ true
 letter_class b e = pick (is_blank b) (is_digit b) (is_letter b) (b == 34) (b == 39) e
@@ -112,9 +111,45 @@ letter_class b e = pick (is_blank b) (is_digit b) (is_letter b) (b == 34) (b == 
     pick false false false false true e = cc
     pick false false false false false e = cc
 
+-- A letter first, and then bytes of names.
+abbrev HasBytes : List ℕ → Type 0
+HasBytes [] = ⊥
+HasBytes (b ∷ bytes) = (class_of b ≡ class.Letter) × (list_all byte.is_name_byte (b ∷ bytes) ≡ true)
+
+has_bytes : (b : ℕ) (rest : List ℕ) → class_of b ≡ class.Letter → HasBytes (take (name_run (b ∷ rest)) (b ∷ rest))
+has_bytes b rest c =
+    let e : byte.is_name_byte b ≡ true = letter_byte b (letter_class b c) in
+    subst (λ t. HasBytes (take (cond t (1 + name_run rest) 0) (b ∷ rest))) (sym e)
+    (subst (λ n. HasBytes (take n (b ∷ rest))) (one_more (name_run rest)) (c, both_true (byte.is_name_byte b) _ e (all_name_bytes rest)))
+
+is_word : (run : List ℕ) → HasBytes run → nat_le (length run) 64 ≡ true → IsWord run
+is_word [] h e = absurd h
+is_word (b ∷ bytes) h e = (h.0, h.1, e)
+
+bytes_of_names : (bytes : List ℕ) → list_all byte.is_name_byte bytes ≡ true → list_all is_name_byte bytes ≡ true
+bytes_of_names [] h = refl
+bytes_of_names (b ∷ bytes) h = both_true (is_name_byte b) _ (name_byte b (both_left (byte.is_name_byte b) _ h)) (bytes_of_names bytes (both_right (byte.is_name_byte b) _ h))
+
+-- A word has the form of a name, and is a name where it has no meaning.
+pub word_is_name : (w : List ℕ) → IsWord w → IsName w
+word_is_name [] h = absurd h
+word_is_name (b ∷ bytes) h = bytes_of_names (b ∷ bytes) h.1
+
+pub word_spelt : (w : List ℕ) → IsWord w → word_kind w ≡ kind.Name → IsSpelt w
+word_spelt [] h e = absurd h
+word_spelt (b ∷ bytes) h e = (h.0, h.1, h.2, e)
+
+pub spelt_is_name : (w : List ℕ) → IsSpelt w → IsName w
+spelt_is_name [] h = absurd h
+spelt_is_name (b ∷ bytes) h = bytes_of_names (b ∷ bytes) h.1
+
 -- What stands at the front.
-word_named : (run : List ℕ) → IsName run → FrontNamed (word run)
-word_named run h = chosen FrontNamed (nat_le (length run) 64) _ _ h tt
+word_named : (run : List ℕ) → HasBytes run → FrontNamed (word run)
+word_named run h = go (nat_le (length run) 64) refl
+  where
+    go : (t : Bool) → nat_le (length run) 64 ≡ t → FrontNamed (if t then front.Token (token.Word run) (length run) else front.Fault cause.BadToken)
+    go true e = is_word run h e
+    go false e = tt
 
 number_named : (n : Result ℕ ReadCause) (len : ℕ) → FrontNamed (number n len)
 number_named (Ok n) len = tt
@@ -155,7 +190,7 @@ front_named (b ∷ rest) = go (class_of b) refl
     go : (c : Class) → class_of b ≡ c → FrontNamed (of_class c (b ∷ rest))
     go class.Blank e = tt
     go class.Digit e = number_named (literal (take (name_run (b ∷ rest)) (b ∷ rest))) (name_run (b ∷ rest))
-    go class.Letter e = word_named (take (name_run (b ∷ rest)) (b ∷ rest)) (word_is_name b rest (letter_class b e))
+    go class.Letter e = word_named (take (name_run (b ∷ rest)) (b ∷ rest)) (has_bytes b rest e)
     go class.Quote e = string_named (constant 34 (drop 1 (b ∷ rest)))
     go class.Apostrophe e = character_named (constant 39 (drop 1 (b ∷ rest)))
     go class.Sign e = sign_named (b ∷ rest)
@@ -178,7 +213,7 @@ value_of_named name f at bytes h = tt
 name_named : (k : TokenKind) (at behind : ℕ) (bytes : List ℕ) → TokenNamed k → LineNamed (of.named k at behind bytes)
 name_named (token.Word w) at behind bytes h =
     chosen LineNamed (is_name w) _ _
-    (value_of_named (record { at = at; it = w }) (front_of (drop (of.gap_len bytes) bytes)) (behind + of.gap_len bytes) (drop (of.gap_len bytes) bytes) h) tt
+    (value_of_named (record { at = at; it = w }) (front_of (drop (of.gap_len bytes) bytes)) (behind + of.gap_len bytes) (drop (of.gap_len bytes) bytes) (word_is_name w h)) tt
 name_named k at behind bytes h = tt
 
 define_named : (f : Front) (at : ℕ) (bytes : List ℕ) → FrontNamed f → LineNamed (of.define_of f at bytes)

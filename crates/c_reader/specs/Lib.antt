@@ -5,6 +5,7 @@ pub mod Refusal
 pub mod Answered
 pub mod Loose
 pub mod Formed
+pub mod Spelling
 -- What the inner functions promise each other.
 pub mod Choices
 pub mod Ranks

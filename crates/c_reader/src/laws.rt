@@ -4,6 +4,7 @@ ghost use Rattle.c_grammar.specs.Source.{OneAnswer};
 ghost use Rattle.c_reader.specs.Answered.{EachIsAnswered};
 ghost use Rattle.c_reader.specs.Formed.{EachReadingHasTheForm};
 ghost use Rattle.c_reader.specs.Loose.{SameLive};
+ghost use Rattle.c_reader.specs.Spelling.{EachLiftingIsSpelt, EachReadingIsSpelt};
 
 use c_grammar::a_source_has_one_answer;
 
@@ -23,4 +24,12 @@ pub fn nearest_if_changes_no_live_list()
 /// That each program that is read has the form that the laws of the lifting ask for.
 pub fn readings_have_their_form()
     ensures { EachReadingHasTheForm }
+{}
+
+/// That the names of each program that is read can be spelt: they have a letter or `_` first, then
+/// letters, digits and `_`, 64 bytes at most, and are no words with a meaning of their own.
+/// So can those of its lifting, where no function passes a limit.
+pub fn names_can_be_spelt()
+    ensures tree { EachReadingIsSpelt }
+    ensures lifted { EachLiftingIsSpelt }
 {}

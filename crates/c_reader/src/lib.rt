@@ -20,7 +20,8 @@ pub use c_tokens::{ReadRefused, tokens};
 pub use found::Found;
 pub use front::expr_at;
 pub use laws::{
-    each_source_has_one_answer, nearest_if_changes_no_live_list, readings_have_their_form,
+    each_source_has_one_answer, names_can_be_spelt, nearest_if_changes_no_live_list,
+    readings_have_their_form,
 };
 pub use run::parse;
 pub use source::read_program;

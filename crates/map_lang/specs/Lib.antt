@@ -3,3 +3,4 @@ pub use Rattle.c_grammar.specs.Mapping
 pub mod Refusal
 pub mod Answered
 pub mod Formed
+pub mod Kept
