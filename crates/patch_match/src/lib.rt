@@ -15,5 +15,4 @@ mod tables;
 
 pub use backward::{Origins, origin_in, origins_of};
 pub use link::Link;
-pub use matching::lifted_match;
 pub use tables::Tables;

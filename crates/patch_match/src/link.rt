@@ -1,6 +1,7 @@
 //! How an old and a new program belong together.
 
-ghost use Rattle.std.specs.Prelude.{◌≡◌, ℕ, map, IfOk};
+ghost use Rattle.std.specs.Prelude.{◌≡◌, ℕ, [], map, IfOk};
+ghost use Rattle.c_tree.specs.declared.mapping.Entry.TheVariants.{Match};
 ghost use Rattle.c_tree.specs.Link as spec;
 ghost use Rattle.c_tree.specs.Entries as entries;
 ghost use Rattle.c_tree.specs.Names.{find_name, names_in};
@@ -8,8 +9,9 @@ ghost use Rattle.patch_match.specs.Linking.{linking};
 
 use crate::backward::{Origins, origin_in, origins_of};
 use crate::matches::Matches;
+use crate::matching;
 use crate::tables::Tables;
-use c_tree::{At, Entry, LEntry, Lifted, Name, Ty};
+use c_tree::{At, Entry, EntryCause, LEntry, Lifted, Name, Ty};
 use std::alloc::{AllocError, Global};
 use std::marker::Model;
 
@@ -147,6 +149,13 @@ impl<'a> Link<'a> {
         ensures { result ≡ spec.origin self.now.structs s }
     {
         origin_in(&self.origins, s)
+    }
+
+    /// A match entry by numbers, or its least cause, where no entry comes before it.
+    pub fn lifted_match(&self, kind: u8, a: &Name, b: &Option<Name>) -> Result<LEntry, EntryCause>
+        ensures { result ≡ entries.sound_entry self.now [] (Match kind a.now b.now) }
+    {
+        matching::lifted_match(&self.old, &self.new, kind, a, b)
     }
 
     /// The match of the old struct of a name.

@@ -40,7 +40,7 @@ fn new_number(kind: u8, new: &Tables<'_>, name: &Option<Name>) -> Result<Option<
     }
 }
 
-/// A match entry by numbers, or its least cause.
+/// A match entry by numbers, or the first cause that is found.
 pub fn lifted_match(
     old: &Tables<'_>,
     new: &Tables<'_>,
