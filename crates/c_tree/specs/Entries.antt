@@ -77,7 +77,7 @@ abbrev pub least_cause : Link → List Entry → Entry → Option EntryCause
 least_cause k earlier x = find (holds k earlier x) all_causes
 
 -- an entry is refused for its least cause, and else it is the one by numbers; that it has these then is a law of entries
-abbrev pub sound_entry : Link → List Entry → Entry → Result LEntry EntryCause
+unfoldable pub sound_entry : Link → List Entry → Entry → Result LEntry EntryCause
 sound_entry k earlier x = unless_refused (least_cause k earlier x) (ok_or (by_numbers k x) c.BadExpr)
 
 -- both sides of a match entry are there, and starts are kept

@@ -5,3 +5,4 @@ pub mod TypeLemmas
 pub mod NumberLemmas
 pub mod SuitLemmas
 pub mod TwiceLemmas
+mod AloneLemmas

@@ -13,8 +13,21 @@ use crate::reads::Reads;
 use crate::refused::EntryRefused;
 use crate::site::{Site, callees_differ, kinds_differ};
 use c_tree::{Entry, EntryCause, Expr, Fill, LEntry, Name, Pt};
-use patch_match::Link;
+use patch_match::{Link, lifted_match};
 use std::alloc::Global;
+
+/// A match by numbers.
+fn match_entry(
+    k: &Link<'_>,
+    kind: u8,
+    a: &Name,
+    b: &Option<Name>,
+) -> Result<LEntry, EntryRefused>
+    ensures { Gives result (chain.lifted_match k.now.old k.now.new kind a.now b.now) }
+{
+    let lifted = lifted_match(k.old(), k.new(), kind, a, b)?;
+    Ok(lifted)
+}
 
 /// What fills a field of a new struct.
 fn lifted_field(
@@ -136,10 +149,7 @@ pub fn lifted_entry(
     ensures { Gives result (spec.sound_entry k.now [] entry.now) }
 {
     match entry {
-        Entry::Match(kind, a, b) => {
-            let lifted = k.lifted_match(*kind, a, b)?;
-            Ok(lifted)
-        }
+        Entry::Match(kind, a, b) => match_entry(k, *kind, a, b),
         Entry::Field(owner, name, x) => lifted_field(alloc, k, owner, name, x),
         Entry::Init(name, x) => lifted_init(alloc, k, name, x),
         Entry::Point(f, from, to, fills) => {

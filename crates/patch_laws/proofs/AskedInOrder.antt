@@ -79,6 +79,7 @@ passed_numbers k (n.Check x) y w =
 
 -- the chain and the definition agree
 pub asked_in_order : (k : Link) (earlier : List Entry) (x : Entry) → chain k earlier x ≡ sound_entry k earlier x
+unfolding sound_entry
 asked_in_order k earlier x = pick (chain k earlier x) refl where
   pick : (r : Result LEntry EntryCause) → chain k earlier x ≡ r → chain k earlier x ≡ sound_entry k earlier x
   pick (Ok y) e =

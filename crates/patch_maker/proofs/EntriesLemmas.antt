@@ -2,7 +2,7 @@
 use Rattle.std.proofs.Common.{◌≡◌, ◌∙◌, ℕ, suc, ◌+◌, ◌<◌, Bool, true, false, List, [], ◌∷◌, ◌++◌, length, get_or, map, drop, refl, sym, ap, subst, arith}
 use Rattle.std.proofs.Math.ListN.{get_or-map}
 use Rattle.std.proofs.Math.Seq.{drop-cons}
-use Rattle.std.specs.Prelude.{◌||◌, if◌then◌else◌, Result, Ok, Err, IfOk}
+use Rattle.std.specs.Prelude.{◌||◌, Result, Ok, Err, IfOk}
 use Rattle.std.specs.List.{list_any}
 use Rattle.std.proofs.lemmas.List.{append_assoc, append-nil, length-map}
 use Rattle.std.proofs.lemmas.List.Folds.{list_any-append}
@@ -11,7 +11,8 @@ use Rattle.c_tree.specs.declared.cause.EntryCause.TheVariants as c
 use Rattle.c_tree.specs.declared.program.At.{At}
 use Rattle.c_tree.specs.declared.mapping.Entry.{Entry}
 use Rattle.c_tree.specs.declared.mapping.LEntry.{LEntry}
-use Rattle.c_tree.specs.Entries.{Unsound, all_entries, clash, lifted_entry, sound_entry, with_number}
+use Rattle.c_tree.specs.Causes.{clash}
+use Rattle.c_tree.specs.Entries.{Unsound, all_entries, sound_entry, with_number}
 use Rattle.c_tree.specs.Link.{Link}
 use Rattle.c_tree.specs.Refusal.{onward, refuse_if}
 use Rattle.c_tree.specs.Sound.{numbers_clash}
@@ -19,6 +20,7 @@ use Rattle.map_entries.specs.declared.refused.EntryRefused.{EntryRefused}
 use Rattle.map_entries.specs.declared.refused.EntryRefused.TheVariants.{Cause, Memory}
 use Rattle.map_entries.specs.Gives.{Gives}
 use Rattle.patch_laws.proofs.Clash.{clash_by_numbers}
+use Rattle.patch_laws.proofs.AskedInOrder.{asked_alone, earlier_last}
 use Rattle.patch_maker.specs.Judged.{AreJudged, IsStop, Mirrors}
 
 -- entries in front of what others come to
@@ -39,16 +41,21 @@ at_start k xs = record { earlier = []; mirrors = λ x y is. refl; whole = alone 
     alone (Err u) = refl
 
 -- an entry without its own cause is unsound only by an earlier one
-pub twice : (k : Link) (earlier : List Entry) (done : List LEntry) (x : Entry) (y : LEntry) → Mirrors k earlier done → lifted_entry k x ≡ Ok y
+beside : (k : Link) (earlier : List Entry) (x : Entry) (r : Result LEntry EntryCause) → sound_entry k [] x ≡ r
+    → sound_entry k earlier x ≡ onward r (λ y. refuse_if (list_any (clash x) earlier) c.Twice (Ok y))
+beside k earlier x r is = earlier_last k earlier x ∙ ap (λ s. onward s (λ y. refuse_if (list_any (clash x) earlier) c.Twice (Ok y))) is
+
+pub twice : (k : Link) (earlier : List Entry) (done : List LEntry) (x : Entry) (y : LEntry) → Mirrors k earlier done → sound_entry k [] x ≡ Ok y
     → list_any (numbers_clash y) done ≡ true → sound_entry k earlier x ≡ Err c.Twice
-twice k earlier done x y mirrors is clashes = rw (is, mirrors x y is, clashes) refl
+twice k earlier done x y mirrors is clashes = beside k earlier x (Ok y) is ∙ ap (λ b. refuse_if b c.Twice (Ok y)) (mirrors x y is ∙ clashes)
 
-pub sound : (k : Link) (earlier : List Entry) (done : List LEntry) (x : Entry) (y : LEntry) → Mirrors k earlier done → lifted_entry k x ≡ Ok y
+pub sound : (k : Link) (earlier : List Entry) (done : List LEntry) (x : Entry) (y : LEntry) → Mirrors k earlier done → sound_entry k [] x ≡ Ok y
     → list_any (numbers_clash y) done ≡ false → sound_entry k earlier x ≡ Ok y
-sound k earlier done x y mirrors is apart = rw (is, mirrors x y is, apart) refl
+sound k earlier done x y mirrors is apart = beside k earlier x (Ok y) is ∙ ap (λ b. refuse_if b c.Twice (Ok y)) (mirrors x y is ∙ apart)
 
-pub unsound : (k : Link) (earlier : List Entry) (x : Entry) (cause : EntryCause) → lifted_entry k x ≡ Err cause → sound_entry k earlier x ≡ Err cause
-unsound k earlier x cause is = rw is refl
+pub unsound : (k : Link) (earlier : List Entry) (x : Entry) (e : EntryRefused) → Gives (Err e) (sound_entry k [] x) → Gives (Err e) (sound_entry k earlier x)
+unsound k earlier x (Cause cause) is = beside k earlier x (Err cause) is
+unsound k earlier x (Memory e) is = tt
 
 or_swapped : (a b : Bool) → a || b ≡ b || (a || false)
 or_swapped true true = refl
@@ -56,9 +63,9 @@ or_swapped true false = refl
 or_swapped false true = refl
 or_swapped false false = refl
 
-more_mirrors : (k : Link) (earlier : List Entry) (done : List LEntry) (x : Entry) (y : LEntry) → Mirrors k earlier done → lifted_entry k x ≡ Ok y → Mirrors k (x ∷ earlier) (done ++ y ∷ [])
+more_mirrors : (k : Link) (earlier : List Entry) (done : List LEntry) (x : Entry) (y : LEntry) → Mirrors k earlier done → sound_entry k [] x ≡ Ok y → Mirrors k (x ∷ earlier) (done ++ y ∷ [])
 more_mirrors k earlier done x y mirrors is a b also =
-    ap (λ p. p || list_any (clash a) earlier) (clash_by_numbers k a x b y also is) ∙ ap (λ p. numbers_clash b y || p) (mirrors a b also)
+    ap (λ p. p || list_any (clash a) earlier) (clash_by_numbers k a x b y (asked_alone k a ∙ also) (asked_alone k x ∙ is)) ∙ ap (λ p. numbers_clash b y || p) (mirrors a b also)
     ∙ or_swapped (numbers_clash b y) (list_any (numbers_clash b) done) ∙ sym (list_any-append (numbers_clash b) done (y ∷ []))
 
 append_one : (done : List LEntry) (y : LEntry) (r : Result (List LEntry) Unsound) → front done (onward r (λ ys. Ok (y ∷ ys))) ≡ front (done ++ y ∷ []) r
@@ -66,7 +73,7 @@ append_one done y (Ok ys) = ap Ok (sym (append_assoc done (y ∷ []) ys))
 append_one done y (Err u) = refl
 
 -- one entry more is sound
-pub go_on : (k : Link) (xs : List Entry) (i : ℕ) (done : List LEntry) (x : Entry) (y : LEntry) (so : SoFar k xs i done) → drop i xs ≡ x ∷ drop (i + 1) xs → lifted_entry k x ≡ Ok y
+pub go_on : (k : Link) (xs : List Entry) (i : ℕ) (done : List LEntry) (x : Entry) (y : LEntry) (so : SoFar k xs i done) → drop i xs ≡ x ∷ drop (i + 1) xs → sound_entry k [] x ≡ Ok y
     → sound_entry k so.earlier x ≡ Ok y → SoFar k xs (i + 1) (done ++ y ∷ [])
 go_on k xs i done x y so next is good = record {
   earlier = x ∷ so.earlier;
@@ -98,10 +105,10 @@ next_entry xs i d x less is =
 
 -- an entry was judged sound
 pub went_on : (k : Link) (xs : List Entry) (i : ℕ) (done more : List LEntry) (x : Entry) (y : LEntry) (so : SoFar k xs i done) (r : Result LEntry EntryRefused) → drop i xs ≡ x ∷ drop (i + 1) xs
-    → r ≡ Ok y → Gives r (sound_entry k so.earlier x) → IfOk r (λ z. lifted_entry k x ≡ Ok z) → more ≡ done ++ y ∷ [] → SoFar k xs (i + 1) more
+    → r ≡ Ok y → Gives r (sound_entry k so.earlier x) → IfOk r (λ z. sound_entry k [] x ≡ Ok z) → more ≡ done ++ y ∷ [] → SoFar k xs (i + 1) more
 went_on k xs i done more x y so r next is gives lifted all =
     let good : sound_entry k so.earlier x ≡ Ok y = subst (λ (q : Result LEntry EntryRefused). Gives q (sound_entry k so.earlier x)) is gives in
-    let numbered : lifted_entry k x ≡ Ok y = subst (λ (q : Result LEntry EntryRefused). IfOk q (λ z. lifted_entry k x ≡ Ok z)) is lifted in
+    let numbered : sound_entry k [] x ≡ Ok y = subst (λ (q : Result LEntry EntryRefused). IfOk q (λ z. sound_entry k [] x ≡ Ok z)) is lifted in
     subst (λ (es : List LEntry). SoFar k xs (i + 1) es) (sym all) (go_on k xs i done x y so next numbered good)
 
 -- an entry was judged unsound

@@ -5,15 +5,16 @@ use Rattle.c_tree.specs.declared.lifted.Lifted.{Lifted}
 use Rattle.c_tree.specs.declared.mapping.Entry.{Entry}
 use Rattle.c_tree.specs.declared.mapping.LEntry.{LEntry}
 use Rattle.c_tree.specs.declared.cause.EntryCause.{EntryCause}
-use Rattle.c_tree.specs.Entries.{all_entries, clash, lifted_entries, lifted_entry}
+use Rattle.c_tree.specs.Causes.{clash}
+use Rattle.c_tree.specs.Entries.{sound_entry, all_entries, lifted_entries}
 use Rattle.patch_maker.specs.declared.refused.PatchRefused.{PatchRefused}
 use Rattle.patch_maker.specs.declared.refused.PatchRefused.TheVariants as refused
 use Rattle.c_tree.specs.Link.{Link}
 use Rattle.c_tree.specs.Sound.{numbers_clash}
 
--- an entry clashes with earlier entries by name exactly where it does by numbers
+-- an entry that is sound beside no other clashes with earlier entries by name exactly where it does by numbers
 abbrev pub Mirrors : Link → List Entry → List LEntry → Type 0
-Mirrors k earlier done = (x : Entry) (y : LEntry) → lifted_entry k x ≡ Ok y → list_any (clash x) earlier ≡ list_any (numbers_clash y) done
+Mirrors k earlier done = (x : Entry) (y : LEntry) → sound_entry k [] x ≡ Ok y → list_any (clash x) earlier ≡ list_any (numbers_clash y) done
 
 -- entries by numbers, in the order of a mapping
 pub record AreJudged (k : Link) (xs : List Entry) (es : List LEntry) : Type 0 where

@@ -30,7 +30,7 @@ fn sound_entry(
     ensures sound { (earlier : List Entry) (done : List LEntry) → Mirrors k.now earlier done
         → AreSubjects subjects.now done
         → Gives result (spec.sound_entry k.now earlier entry.now) }
-    ensures lifted { IfOk result (λ y. spec.lifted_entry k.now entry.now ≡ Ok y) }
+    ensures alone { IfOk result (λ y. spec.sound_entry k.now [] entry.now ≡ Ok y) }
 {
     let lifted = lifted_entry(alloc, k, old, new, entry)?;
     if clashes(subjects, &lifted) {

@@ -19,7 +19,7 @@ loop-entry-preserved c =
     let gives = c.sound_entry.ensures.sound so.earlier c.loop-entry.lifted.items so.mirrors c.loop-entry.invariant.noted in
     record {
       so = went_on c.args.k.now _ c.loop-entry.entry-index c.loop-entry.lifted.items c.keep.new.lifted.items c.entry-item.result.it c.in-Ok.sound so c.sound_entry.result next
-          c.in-Ok.is gives c.sound_entry.ensures.lifted c.in_ok-keep-in-Ok.ensures.0;
+          c.in-Ok.is gives c.sound_entry.ensures.alone c.in_ok-keep-in-Ok.ensures.0;
       noted = c.in_ok-keep-in-Ok.ensures.1 c.loop-entry.invariant.noted;
       number = omega (arith, c.in_ok-number.ensures, c.loop-entry.invariant.number);
     }
