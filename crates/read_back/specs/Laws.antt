@@ -1,0 +1,16 @@
+-- What holds of the canonical text of a patch's entries.
+use Rattle.std.specs.Prelude.{◌≡◌, ℕ, List, map, Ok}
+use Rattle.c_tree.specs.declared.lifted.Lifted.{Lifted}
+use Rattle.c_tree.specs.declared.mapping.LEntry.{LEntry}
+use Rattle.c_tree.specs.declared.mapping.Mapping.{Mapping}
+use Rattle.c_tree.specs.Canonical.{canonical_entries, canonical_text}
+use Rattle.c_grammar.specs.Mapping.{IsMappingOf}
+use Rattle.c_source.specs.Source.{IsAccepted}
+
+-- Of a text that is a mapping, whose entries lift between the programs of two accepted sources: the canonical text of these
+-- entries is a mapping, and its canonical entries are the same.
+abbrev pub CanonicalTextReadsBack : Type 0
+CanonicalTextReadsBack =
+    (old new text : List ℕ) (p q : Lifted) (m : Mapping) (es : List LEntry) → IsAccepted old p → IsAccepted new q → IsMappingOf text m
+    → canonical_entries p q (map (λ x. x.it) m.entries) ≡ Ok es
+    → (n : Mapping) × IsMappingOf (canonical_text p q es) n × (canonical_entries p q (map (λ x. x.it) n.entries) ≡ Ok es)
