@@ -1,5 +1,5 @@
 -- Each token of a reading is taken within the limits.
-use Rattle.std.proofs.Common.{◌≡◌, ◌≢◌, ℕ, zero, suc, ◌+◌, ◌-◌, ◌<◌, ◌≤◌, ◌⊎◌, inl, inr, List, [], ◌∷◌, ◌++◌, length, Bool, true, false, refl, sym, ◌∙◌, ap, subst, Option, Some, None, append_assoc, arith}
+use Rattle.std.proofs.Common.{◌≡◌, ◌≢◌, ℕ, ◌<◌, ◌≤◌, ◌⊎◌, inl, inr, List, [], ◌∷◌, ◌++◌, length, refl, sym, ◌∙◌, ap, subst, Some, append_assoc, arith}
 use Rattle.std.proofs.lemmas.Bool.{cases_lt}
 use Rattle.std.proofs.lemmas.Option.{slice_get_within}
 use Rattle.std.specs.Prelude.{slice_get}
@@ -20,14 +20,13 @@ use Rattle.c_reader.specs.Choices.{choices, first_kinds}
 use Rattle.c_reader.specs.Depth.{least}
 use Rattle.c_reader.specs.Follow.{FitsReader, Leads, Reached, Changed}
 use Rattle.c_reader.specs.Outcome.{Takes, Meets, Misses, FollowsAt}
-use Rattle.c_reader.specs.Picks.{is_kind, predict}
 use Rattle.c_reader.specs.Ranks.{blocked_kinds, used_rules}
 use Rattle.c_reader.proofs.Choice.{kind_is, chosen}
 use Rattle.c_reader.proofs.Factoring.{to_reader}
 use Rattle.c_reader.proofs.Limits.{fewer_left, not_next, here, length_more}
 use Rattle.c_reader.proofs.Outcomes.{takes, steps_on, faults_on, starts_on}
 use Rattle.c_reader.proofs.Tables.{all_kinds, kind_place, tables_good, tables_good_end}
-use Rattle.c_reader.proofs.Turns.{same_kind, leads_refl, leads_trans, take_reached, unless_changed, act_changed, expand_changed}
+use Rattle.c_reader.proofs.Turns.{leads_refl, leads_trans, take_reached, unless_changed, act_changed, expand_changed}
 
 -- As `Goes` of the reader's alternatives to the end of a text. So few constructs as `low` can be open before the next token,
 -- and each token that is taken keeps the limits.

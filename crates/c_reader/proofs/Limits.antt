@@ -1,22 +1,21 @@
 -- What is derived within the limits is the one reading, and no token of it is a fault.
-use Rattle.std.proofs.Common.{◌≡◌, ◌≢◌, ℕ, zero, suc, ◌+◌, ◌-◌, ◌<◌, ◌≤◌, ◌⊎◌, inl, inr, List, [], ◌∷◌, ◌++◌, length, Bool, true, false, refl, sym, ◌∙◌, ap, subst, Option, Some, None, append_assoc, append-nil, arith, cond}
+use Rattle.std.proofs.Common.{◌≡◌, ℕ, ◌+◌, ◌<◌, ◌≤◌, ◌⊎◌, inl, inr, List, [], ◌∷◌, ◌++◌, length, Bool, true, false, refl, sym, ◌∙◌, ap, subst, Some, None, append_assoc, append-nil, arith, cond}
 use Rattle.std.proofs.lemmas.Bool.{cases_lt}
 use Rattle.std.specs.Prelude.{slice_get}
 use Rattle.c_grammar.specs.declared.kind.Kind.{Kind}
-use Rattle.c_grammar.specs.declared.rule.Rule.{Rule}
 use Rattle.c_grammar.specs.declared.symbol.Mark.{Mark}
 use Rattle.c_grammar.specs.declared.symbol.Mark.TheVariants as mark
 use Rattle.c_grammar.specs.declared.symbol.Symbol.{Symbol}
-use Rattle.c_grammar.specs.declared.symbol.Symbol.TheVariants.{Take, Unless, Act, Expand}
+use Rattle.c_grammar.specs.declared.symbol.Symbol.TheVariants.{Unless, Act, Expand}
 use Rattle.c_grammar.specs.declared.value.Value.{Value}
 use Rattle.c_grammar.specs.Effects.{State, with_token, effect, is_outer, empty}
 use Rattle.c_grammar.specs.Pieces.{Piece}
-use Rattle.c_grammar.specs.Reading.{Within, Part, Whole, Goes, stop, pass, act, expand, NextIsNot, depth_limit, operator_limit, IsReading}
+use Rattle.c_grammar.specs.Reading.{Within, Part, Whole, Goes, stop, pass, act, expand, NextIsNot, depth_limit, IsReading}
 use Rattle.c_reader.specs.Choices.{choices, first_kinds}
 use Rattle.c_reader.specs.Depth.{least}
 use Rattle.c_reader.specs.Follow.{FitsReader, Reached, Changed}
 use Rattle.c_reader.specs.Outcome.{Meets, FollowsAt}
-use Rattle.c_reader.specs.Picks.{is_kind, predict}
+use Rattle.c_reader.specs.Picks.{is_kind}
 use Rattle.c_reader.specs.Ranks.{blocked_kinds, used_rules}
 use Rattle.c_reader.proofs.Outcomes.{takes, finishes, starts_on, steps_on, reads_on}
 use Rattle.c_reader.proofs.Choice.{kind_is, chosen, chosen_end}

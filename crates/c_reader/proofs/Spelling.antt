@@ -1,9 +1,8 @@
 -- The names of a lifted program can be spelt, as those of its tree.
-use Rattle.std.proofs.Common.{◌≡◌, ℕ, zero, suc, ◌+◌, ◌≤◌, ◌<◌, List, [], ◌∷◌, ◌++◌, length, map, Bool, true, false, refl, sym, ◌∙◌, ap, subst, arith, append_assoc, Option, Some, None}
-use Rattle.std.specs.Prelude.{All, codes, count_by, filter, is_some, nat_lt, if◌then◌else◌}
+use Rattle.std.proofs.Common.{◌≡◌, ℕ, zero, suc, ◌+◌, ◌≤◌, List, [], ◌∷◌, ◌++◌, length, map, Bool, true, false, refl, sym, subst, arith, append_assoc, Option, Some, None}
+use Rattle.std.specs.Prelude.{All, codes, count_by, is_some, nat_lt, if◌then◌else◌}
 use Rattle.std.specs.Fmt.{decimal}
 use Rattle.std.specs.List.{AllByRecursion}
-use Rattle.std.proofs.lemmas.Bool.{leb-true}
 use Rattle.std.proofs.lemmas.Bool.Decides.{nat_tests}
 use Rattle.std.proofs.lemmas.List.{length-append}
 use Rattle.std.proofs.lemmas.List.Elements.{All-filter, All-map, All-append, All-from_recursion, recursion_from_All}
@@ -11,7 +10,6 @@ use Rattle.std.proofs.lemmas.List.Sums.{count_by-le-length}
 use Rattle.c_tree.specs.declared.cause.LimitKind.{LimitKind}
 use Rattle.c_tree.specs.declared.cause.LimitKind.TheVariants as limit
 use Rattle.c_tree.specs.declared.lifted.LFunction.{LFunction}
-use Rattle.c_tree.specs.declared.lifted.Slot.{Slot}
 use Rattle.c_tree.specs.declared.program.Field.{Field}
 use Rattle.c_tree.specs.declared.program.Function.{Function}
 use Rattle.c_tree.specs.declared.program.Program.{Program}
@@ -22,7 +20,6 @@ use Rattle.c_tree.specs.Lifting.{Spot, body_of, first_limit, lift, lift_all, lif
 use Rattle.c_tree.specs.Names.{names_in}
 use Rattle.c_tree.specs.Scope.{Variable, file_scope, is_same_name, locals_of, with_parameters}
 use Rattle.c_tree.specs.Typing.{definitions}
-use Rattle.c_grammar.specs.Source.{IsProgramOf}
 use Rattle.c_reader.specs.Spelling.{IsSpelt, IsSlotSpelt, plain, hidden, temporary, CanBeSpelt, AreLocalsSpelt, AreFieldsSpelt, IsTreeSpelt, EachLiftingIsSpelt}
 use Rattle.c_reader.proofs.Formed.{tree_spelt}
 

@@ -1,12 +1,10 @@
 -- What the actions make of the parts of entries.
-use Rattle.std.specs.Prelude.{◌≡◌, ◌≢◌, ◌&&◌, ℕ, ◌+◌, ◌-◌, ◌≤◌, nat_lt, IsTrue, ⊤, Bool, true, false, List, [], ◌∷◌, ◌++◌, All, Option, Some, None}
+use Rattle.std.specs.Prelude.{◌≡◌, ◌≢◌, ◌&&◌, ℕ, ◌≤◌, nat_lt, IsTrue, Bool, true, false, List, [], ◌∷◌}
 use Rattle.std.specs.Str.{bytes_eq}
 use Rattle.std.specs.List.{list_all}
-use Rattle.std.proofs.Common.{refl, sym, ◌∙◌, ap, subst, arith, cond}
+use Rattle.std.proofs.Common.{refl, sym, ◌∙◌, ap, arith, cond}
 use Rattle.std.proofs.lemmas.List.Elements.{All-nil, All-push}
 use Rattle.c_tree.specs.declared.mapping.Entry.{Entry}
-use Rattle.c_tree.specs.declared.mapping.Entry.TheVariants as n
-use Rattle.c_tree.specs.declared.mapping.Fill.{Fill}
 use Rattle.c_tree.specs.declared.mapping.Mapping.{Mapping}
 use Rattle.c_tree.specs.declared.mapping.Pt.{Pt}
 use Rattle.c_tree.specs.declared.token.Token.{Token}
@@ -17,16 +15,15 @@ use Rattle.c_grammar.specs.declared.action.Action.TheVariants as action
 use Rattle.c_grammar.specs.declared.kind.Kind.{Kind}
 use Rattle.c_grammar.specs.declared.kind.Kind.TheVariants as kind
 use Rattle.c_grammar.specs.declared.symbol.Mark.TheVariants as mark
-use Rattle.c_grammar.specs.declared.value.Operand.{Operand}
 use Rattle.c_grammar.specs.declared.value.Value.{Value}
 use Rattle.c_grammar.specs.declared.value.Value.TheVariants as value
-use Rattle.c_grammar.specs.Effects.{State, effect, with_token, value_effect, with_entry, meaning, side_of, place_of}
+use Rattle.c_grammar.specs.Effects.{State, effect, with_token, value_effect, with_entry, side_of, place_of}
 use Rattle.c_grammar.specs.Tokens.{kind_in, kind_of, map_kind_of, word_kind, map_word_kind, meant_or, number_of, natural, text_of}
-use Rattle.c_grammar.specs.Values.{mapping_in, fills_in, pt_in}
+use Rattle.c_grammar.specs.Values.{mapping_in, fills_in}
 use Rattle.c_grammar.specs.Words.{map_words, words}
 use Rattle.c_grammar.specs.Words as of
 use Rattle.map_lang.specs.Kept.{IsKeptExpr, IsKeptNumber, IsKeptPoint, IsKeptEntry, IsKept}
-use Rattle.map_lang.proofs.Contracts.{Made, Doc, Filled, AreKeptFills, NewWord}
+use Rattle.map_lang.proofs.Contracts.{Made, Doc, Filled, NewWord}
 use Rattle.map_lang.proofs.Literals.{HasLiteral}
 use Rattle.map_lang.proofs.Operands.{is_kept, natural_of}
 

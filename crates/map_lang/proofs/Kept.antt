@@ -1,14 +1,13 @@
 -- Each mapping that is read keeps the limits.
-use Rattle.std.specs.Prelude.{◌≡◌, ℕ, ◌≤◌, List, [], ◌∷◌, map}
-use Rattle.std.proofs.Common.{refl, sym, ◌∙◌, ap, subst, arith}
-use Rattle.c_tree.specs.declared.mapping.Mapping.{Mapping}
+use Rattle.std.specs.Prelude.{◌≡◌, ℕ, List, [], ◌∷◌, map}
+use Rattle.std.proofs.Common.{refl, sym, ◌∙◌, subst}
 use Rattle.c_tree.specs.declared.token.Token.{Token}
 use Rattle.c_grammar.specs.declared.action.Action.TheVariants as action
 use Rattle.c_grammar.specs.declared.symbol.Symbol.{Symbol}
 use Rattle.c_grammar.specs.declared.value.Value.{Value}
 use Rattle.c_grammar.specs.declared.value.Value.TheVariants as value
 use Rattle.c_grammar.specs.Effects.{State, effect, empty, with_token}
-use Rattle.c_grammar.specs.Mapping.{map_pieces, IsMappingOf}
+use Rattle.c_grammar.specs.Mapping.{map_pieces}
 use Rattle.c_grammar.specs.Pieces.{Piece, map_piece}
 use Rattle.c_grammar.specs.Rules.{map_start}
 use Rattle.c_grammar.specs.Tokens.{map_kind_of}

@@ -1,5 +1,5 @@
 -- Each number of a token is one that a literal may have.
-use Rattle.std.specs.Prelude.{◌≡◌, ℕ, zero, suc, ◌+◌, ◌-◌, ◌≤◌, ℤ, pos, negsuc, ⊤, Bool, true, false, ◌&&◌, ◌||◌, ◌==◌, nat_eq, nat_le, nat_lt, if◌then◌else◌, List, [], ◌∷◌, ◌++◌, length, take, drop, map, codes, Option, Some, None, Result, Ok, Err}
+use Rattle.std.specs.Prelude.{◌≡◌, ℕ, zero, suc, ◌+◌, ◌-◌, ◌≤◌, ℤ, pos, negsuc, ⊤, Bool, true, false, ◌||◌, ◌==◌, nat_eq, nat_le, if◌then◌else◌, List, [], ◌∷◌, ◌++◌, length, take, drop, codes, Option, Some, None, Result, Ok, Err}
 use Rattle.std.specs.List.{AllByRecursion, starts_with}
 use Rattle.std.specs.Option.{option_map}
 use Rattle.std.proofs.Common.{refl, arith}
@@ -20,7 +20,7 @@ use Rattle.c_tokens.specs.declared.quoted.Quoted.TheVariants as q
 use Rattle.c_tokens.specs.declared.text_scan.TextScan.{TextScan}
 use Rattle.c_tokens.specs.Byte.{class_of, is_within, name_run}
 use Rattle.c_tokens.specs.Comment.{up_to_close}
-use Rattle.c_tokens.specs.Front.{word, number, string, single, character, block, punct, sign, of_class, front_of, size_of}
+use Rattle.c_tokens.specs.Front.{number, string, single, character, block, punct, sign, of_class, front_of, size_of}
 use Rattle.c_tokens.specs.Literal.{are_digits, in_base, is_hexadecimal, literal, number_of}
 use Rattle.c_tokens.specs.Operator.{longest}
 use Rattle.c_tokens.specs.Quoted.{added, closed, closed_at, constant, escape, escapes, joined, text_of, up_to_quote}

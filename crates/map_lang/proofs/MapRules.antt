@@ -1,7 +1,7 @@
 -- Each alternative of a rule of mappings does what the rule promises.
-use Rattle.std.specs.Prelude.{◌≡◌, ◌≢◌, ℕ, zero, suc, ◌+◌, ◌-◌, ◌≤◌, ⊤, Bool, true, false, List, [], ◌∷◌, ◌++◌, All}
+use Rattle.std.specs.Prelude.{◌≡◌, ℕ, suc, ◌≤◌, true, false, List, [], ◌∷◌, ◌++◌}
 use Rattle.std.specs.List.{list_all}
-use Rattle.std.proofs.Common.{refl, sym, ◌∙◌, ap, subst, arith}
+use Rattle.std.proofs.Common.{refl, ◌∙◌, ap, subst, arith}
 use Rattle.c_tree.specs.declared.token.Token.{Token}
 use Rattle.c_tree.specs.Operators.{binding}
 use Rattle.c_grammar.specs.declared.action.Action.TheVariants as action
@@ -11,15 +11,12 @@ use Rattle.c_grammar.specs.declared.rule.Rule.{Rule}
 use Rattle.c_grammar.specs.declared.rule.Rule.TheVariants as rule
 use Rattle.c_grammar.specs.declared.symbol.Mark.TheVariants as mark
 use Rattle.c_grammar.specs.declared.symbol.Symbol.{Symbol}
-use Rattle.c_grammar.specs.declared.symbol.Symbol.TheVariants.{Take, Unless, Act, Expand}
-use Rattle.c_grammar.specs.declared.value.Value.{Value}
 use Rattle.c_grammar.specs.declared.value.Value.TheVariants as value
 use Rattle.c_grammar.specs.Effects.{State, binary_of, effect, with_token, value_effect}
-use Rattle.c_grammar.specs.Reading.{Among, first, later, depth_limit}
-use Rattle.c_grammar.specs.Tokens.{kind_of, map_kind_of}
+use Rattle.c_grammar.specs.Reading.{Among, first, later}
+use Rattle.c_grammar.specs.Tokens.{map_kind_of}
 use Rattle.c_reader.specs.Choices.{choices}
-use Rattle.map_lang.proofs.Contracts.{Claim, Made, Level, Tail, Word, AnyWord, OperatorAt, Doc, Filled, Document, FillList, Reads, LeadsOn}
-use Rattle.map_lang.proofs.Literals.{HasLiteral}
+use Rattle.map_lang.proofs.Contracts.{Claim, Level, Tail, OperatorAt, Filled, Reads, LeadsOn}
 use Rattle.map_lang.proofs.Operands.{same_le, rebase, lower, down, whole, bin_made, un_made, group_made, index_made, field_made, name_made, hidden_made, temporary_made, number_made, null_made, eof_made}
 use Rattle.map_lang.proofs.EntriesKept.{doc_past, match_done, unmatched_done, field_done, init_done, check_done, point_done, number_point, no_fills, fills_past, fill_done, is_meant, new_word, same_kind}
 

@@ -1,7 +1,6 @@
 -- What the actions make of operands.
-use Rattle.std.specs.Prelude.{◌≡◌, ◌≢◌, ℕ, zero, suc, ◌+◌, ◌-◌, ◌≤◌, ℤ, pos, negsuc, ⊤, Bool, true, false, List, [], ◌∷◌, All}
+use Rattle.std.specs.Prelude.{◌≡◌, ℕ, suc, ◌+◌, ◌-◌, ◌≤◌, ℤ, pos, negsuc, List, [], ◌∷◌}
 use Rattle.std.proofs.Common.{refl, sym, ◌∙◌, ap, subst, arith}
-use Rattle.c_tree.specs.declared.op.BinOp.{BinOp}
 use Rattle.c_tree.specs.declared.program.ExprKind.{ExprKind}
 use Rattle.c_tree.specs.declared.program.ExprKind.TheVariants as e
 use Rattle.c_tree.specs.declared.token.Token.{Token}

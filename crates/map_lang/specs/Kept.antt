@@ -1,5 +1,5 @@
 -- What a mapping that is read keeps: the limits on expressions and numbers, and what its words may be.
-use Rattle.std.specs.Prelude.{◌≡◌, ◌≢◌, ℕ, suc, ◌+◌, ◌≤◌, pos, nat_lt, IsTrue, ⊤, List, [], All, Option, Some, None}
+use Rattle.std.specs.Prelude.{◌≡◌, ◌≢◌, ℕ, suc, ◌+◌, ◌≤◌, pos, nat_lt, IsTrue, ⊤, List, All, Option, Some, None}
 use Rattle.c_tree.specs.declared.op.UnOp.{UnOp}
 use Rattle.c_tree.specs.declared.op.BinOp.{BinOp}
 use Rattle.c_tree.specs.declared.place.PlaceKind.{PlaceKind}
