@@ -1,5 +1,5 @@
 -- What an expression of a mapping becomes by its numbers keeps the limits that the mapping keeps.
-use Rattle.std.proofs.Common.{◌≡◌, ℕ, zero, suc, ◌+◌, ◌<◌, ◌≤◌, ◌⊎◌, inl, inr, Bool, true, false, pos, negsuc, List, [], ◌∷◌, ◌++◌, Option, Some, None, refl, sym, ap, subst, ◌∙◌, arith}
+use Rattle.std.proofs.Common.{◌≡◌, ℕ, zero, suc, ◌+◌, ◌<◌, ◌≤◌, ◌⊎◌, inl, inr, Bool, true, false, pos, List, [], ◌∷◌, ◌++◌, Option, Some, None, refl, sym, ap, subst, ◌∙◌, arith}
 use Rattle.std.specs.Prelude.{if◌then◌else◌, is_some, slice_get, slice_index_or}
 use Rattle.std.specs.Option.{option_map, option_or}
 use Rattle.std.specs.Fmt.{decimal}
@@ -24,7 +24,7 @@ use Rattle.map_lang.specs.Kept.{Fitting}
 use Rattle.c_reader.specs.Spelling.{plain}
 use Rattle.patch_laws.proofs.Numbers.{number_at}
 use Rattle.read_back.proofs.Shown.{Spelling, Fit, fit_number, fit_null, fit_name, fit_element, fit_field, fit_prefixed, fit_between, fit_bracketed}
-use Rattle.read_back.proofs.Numbering.{named_is, operator_again}
+use Rattle.read_back.proofs.Numbering.{is_zero, stays, named_is, operator_again}
 use Rattle.read_back.proofs.Spelt.{named_of, spelling_of, CanSpell, name_of_number, slot_of_number}
 
 -- Where one construct more may open, what fits still fits.
@@ -79,23 +79,6 @@ bracketed_fit {r} {room} {x} {n} asked le f = go (cases_lt (strength x) asked)
     go (inr ge) = one_more (raised asked f ge)
 
 -- A literal 0 beside a pointer fits where it fitted.
-abbrev is_zero : LExpr → Bool
-is_zero (l.Num (pos zero)) = true
-is_zero _ = false
-
-stays : (x : LExpr) (t : Option Ty) → is_zero x ≡ false → beside x t ≡ x
-stays (l.Num (pos zero)) t h = cc
-stays (l.Num (pos (suc n))) t h = refl
-stays (l.Num (negsuc n)) t h = refl
-stays l.Null t h = refl
-stays (l.Slot i) t h = refl
-stays (l.Global g) t h = refl
-stays (l.Elem' g a b) t h = refl
-stays (l.Field' a b owner field) t h = refl
-stays (l.Own i) t h = refl
-stays (l.Un' op a b) t h = refl
-stays (l.Bin' op a b c d) t h = refl
-
 strong_zero : (x : LExpr) → is_zero x ≡ true → strength x ≡ 11
 strong_zero (l.Num n) h = refl
 strong_zero l.Null h = refl

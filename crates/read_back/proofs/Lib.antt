@@ -1,22 +1,22 @@
 -- from tokens to a derivation
-pub mod Printed
-pub mod Levels
-pub mod Forms
-pub mod ReadsBack
+mod Printed
+mod Levels
+mod Forms
+mod ReadsBack
 -- from text to tokens
-pub mod Scan
-pub mod Shown
+mod Scan
+mod Shown
 -- from numbers to numbers
-pub mod Numbering
-pub mod Spelt
-pub mod Fits
-pub mod Places
-pub mod Again
+mod Numbering
+mod Spelt
+mod Fits
+mod Places
+mod Again
 -- from an entry to its tokens
-pub mod Joined
-pub mod Parts
-pub mod Fills
-pub mod Entries
+mod Joined
+mod Parts
+mod Fills
+mod Entries
 -- all of it
-pub mod Whole
-pub mod Law
+mod Whole
+mod Law

@@ -1,6 +1,7 @@
 -- What an expression of a mapping becomes by its numbers is an expression that reads back.
-use Rattle.std.proofs.Common.{◌≡◌, ℕ, zero, suc, Bool, true, false, pos, negsuc, List, [], ◌∷◌, Option, Some, None, refl, sym, ap, subst, ◌∙◌}
-use Rattle.std.specs.Prelude.{if◌then◌else◌, slice_get, slice_index_or}
+use Rattle.std.proofs.Common.{◌≡◌, ℕ, zero, suc, Bool, true, false, pos, negsuc, List, Option, Some, None, refl, sym, ap, subst, ◌∙◌}
+use Rattle.std.specs.Prelude.{if◌then◌else◌}
+use Rattle.std.proofs.lemmas.Option.{same_Some}
 use Rattle.std.specs.Option.{option_map, option_or}
 use Rattle.c_tree.specs.declared.lifted.LExpr.{LExpr, more_of-LExpr}
 use Rattle.c_tree.specs.declared.lifted.LExpr.TheVariants as l
@@ -8,13 +9,12 @@ use Rattle.c_tree.specs.declared.op.BinOp.{BinOp}
 use Rattle.c_tree.specs.declared.op.BinOp.TheVariants as bin
 use Rattle.c_tree.specs.declared.ty.Ty.{Ty}
 use Rattle.c_tree.specs.declared.ty.Ty.TheVariants as ty
-use Rattle.c_tree.specs.declared.lifted.Slot.{Slot}
 use Rattle.c_tree.specs.Compute.{literals}
 use Rattle.c_tree.specs.Types.{is_pointer}
-use Rattle.c_tree.specs.Names.{find_name, slot_names, slot_name, names_in}
+use Rattle.c_tree.specs.Names.{find_name, slot_names, names_in}
 use Rattle.c_tree.specs.MapExpr.{Reads, passes, type_in, named, beside, operator}
 use Rattle.c_tree.specs.Shown.{strength, shown}
-use Rattle.patch_laws.proofs.Numbers.{number_at}
+use Rattle.read_back.proofs.Spelt.{name_of_number, slot_of_number}
 
 -- A literal 0 that stayed one beside a side stays one beside what that side became.
 still : (r : Reads) (x : LExpr) (t : Option Ty) → beside (beside x t) t ≡ beside x t
@@ -35,23 +35,23 @@ still r (l.Un' op a b) t = refl
 still r (l.Bin' op a b c d) t = refl
 
 -- whether an expression is the literal 0
-abbrev is_zero : LExpr → Bool
+abbrev pub is_zero : LExpr → Bool
 is_zero (l.Num (pos zero)) = true
 is_zero _ = false
 
 -- What is no literal 0 stays.
-kept : (x : LExpr) (t : Option Ty) → is_zero x ≡ false → beside x t ≡ x
-kept (l.Num (pos zero)) t h = cc
-kept (l.Num (pos (suc n))) t h = refl
-kept (l.Num (negsuc n)) t h = refl
-kept l.Null t h = refl
-kept (l.Slot i) t h = refl
-kept (l.Global g) t h = refl
-kept (l.Elem' g a b) t h = refl
-kept (l.Field' a b owner field) t h = refl
-kept (l.Own i) t h = refl
-kept (l.Un' op a b) t h = refl
-kept (l.Bin' op a b c d) t h = refl
+pub stays : (x : LExpr) (t : Option Ty) → is_zero x ≡ false → beside x t ≡ x
+stays (l.Num (pos zero)) t h = cc
+stays (l.Num (pos (suc n))) t h = refl
+stays (l.Num (negsuc n)) t h = refl
+stays l.Null t h = refl
+stays (l.Slot i) t h = refl
+stays (l.Global g) t h = refl
+stays (l.Elem' g a b) t h = refl
+stays (l.Field' a b owner field) t h = refl
+stays (l.Own i) t h = refl
+stays (l.Un' op a b) t h = refl
+stays (l.Bin' op a b c d) t h = refl
 
 zero_is : (x : LExpr) → is_zero x ≡ true → x ≡ l.Num (pos 0)
 zero_is (l.Num (pos zero)) h = refl
@@ -76,7 +76,7 @@ zero_still r b = go (is_zero b) refl
 
     go : (z : Bool) → is_zero b ≡ z → beside (beside (l.Num (pos 0)) (type_in r b)) (type_in r (beside b (Some ty.Int))) ≡ beside (l.Num (pos 0)) (type_in r b)
     go true h = subst (λ x. beside (beside (l.Num (pos 0)) (type_in r x)) (type_in r (beside x (Some ty.Int))) ≡ beside (l.Num (pos 0)) (type_in r x)) (sym (zero_is b h)) zero
-    go false h = ap (λ x. beside (beside (l.Num (pos 0)) (type_in r b)) (type_in r x)) (kept b (Some ty.Int) h) ∙ still r (l.Num (pos 0)) (type_in r b)
+    go false h = ap (λ x. beside (beside (l.Num (pos 0)) (type_in r b)) (type_in r x)) (stays b (Some ty.Int) h) ∙ still r (l.Num (pos 0)) (type_in r b)
 
 -- A side once more, beside what the other became.
 pub side_still : (r : Reads) (a b : LExpr) → beside (beside a (type_in r b)) (type_in r (beside b (type_in r a))) ≡ beside a (type_in r b)
@@ -86,8 +86,8 @@ side_still r a b = go (is_zero a) refl
     go : (z : Bool) → is_zero a ≡ z → beside (beside a (type_in r b)) (type_in r (beside b (type_in r a))) ≡ beside a (type_in r b)
     go true h = subst (λ x. beside (beside x (type_in r b)) (type_in r (beside b (type_in r x))) ≡ beside x (type_in r b)) (sym (zero_is a h)) (zero_still r b)
     go false h =
-        let same : beside a (type_in r b) ≡ a = kept a (type_in r b) h in
-        ap (λ x. beside x (type_in r (beside b (type_in r a)))) same ∙ kept a (type_in r (beside b (type_in r a))) h ∙ sym same
+        let same : beside a (type_in r b) ≡ a = stays a (type_in r b) h in
+        ap (λ x. beside x (type_in r (beside b (type_in r a)))) same ∙ stays a (type_in r (beside b (type_in r a))) h ∙ sym same
 
 -- What an operator makes of its sides, it makes again of what they became.
 pub operator_again : (r : Reads) (op : BinOp) (a b x y : LExpr) → operator r op a b ≡ l.Bin op x y → operator r op x y ≡ l.Bin op x y
@@ -117,19 +117,6 @@ pub record IsLeaf (r : Reads) (name : List ℕ) (x : LExpr) : Type 0 where
   pub text : shown r x ≡ name
   pub strong : strength x ≡ 11
 
-some_is : {A : Type 0} {x y : A} → Some x ≡ Some y → x ≡ y
-some_is e = cc
-
-at_number : (names : List (List ℕ)) (i : ℕ) (name : List ℕ) → slice_get names i ≡ Some name → slice_index_or names i [] ≡ name
-at_number [] i name h = cc
-at_number (n ∷ names) zero name h = some_is h
-at_number (n ∷ names) (suc i) name h = at_number names i name h
-
-slot_at_number : (xs : List Slot) (i : ℕ) → slot_name xs i ≡ slice_index_or (slot_names xs) i []
-slot_at_number [] i = refl
-slot_at_number (x ∷ xs) zero = refl
-slot_at_number (x ∷ xs) (suc i) = slot_at_number xs i
-
 pub named_is : (r : Reads) (name : List ℕ) (x : LExpr) → named r name ≡ Some x → IsLeaf r name x
 unfolding literals
 named_is r name x h = by_slot (find_name name (slot_names r.slots)) (find_name name (slot_names r.own)) (find_name name (names_in r.program 2)) refl refl refl h
@@ -140,9 +127,9 @@ named_is r name x h = by_slot (find_name name (slot_names r.slots)) (find_name n
     by_slot : (a b c : Option ℕ) → find_name name (slot_names r.slots) ≡ a → find_name name (slot_names r.own) ≡ b → find_name name (names_in r.program 2) ≡ c
         → option_or (option_or (option_map (λ i. l.Slot i) a) (option_map (λ i. l.Own i) b)) (option_map (λ g. l.Global g) c) ≡ Some x → IsLeaf r name x
     by_slot (Some i) b c e f g h =
-        at_leaf (l.Slot i) (record { text = slot_at_number r.slots i ∙ at_number (slot_names r.slots) i name (number_at (slot_names r.slots) name i e); strong = refl }) (some_is h)
+        at_leaf (l.Slot i) (record { text = slot_of_number r.slots name i e; strong = refl }) (same_Some _ _ h)
     by_slot None (Some i) c e f g h =
-        at_leaf (l.Own i) (record { text = slot_at_number r.own i ∙ at_number (slot_names r.own) i name (number_at (slot_names r.own) name i f); strong = refl }) (some_is h)
+        at_leaf (l.Own i) (record { text = slot_of_number r.own name i f; strong = refl }) (same_Some _ _ h)
     by_slot None None (Some i) e f g h =
-        at_leaf (l.Global i) (record { text = at_number (names_in r.program 2) i name (number_at (names_in r.program 2) name i g); strong = refl }) (some_is h)
+        at_leaf (l.Global i) (record { text = name_of_number (names_in r.program 2) name i g; strong = refl }) (same_Some _ _ h)
     by_slot None None None e f g h = cc

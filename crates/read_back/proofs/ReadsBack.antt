@@ -1,8 +1,6 @@
 -- A printed expression is read back: by a derivation that keeps the limits, as a tree whose numbers are the expression.
 use Rattle.std.proofs.lemmas.Bool.{cases_lt}
-use Rattle.c_grammar.specs.Pieces.{Piece}
-use Rattle.std.proofs.Common.{◌≡◌, ℕ, ◌<◌, ◌≤◌, ◌⊎◌, inl, inr, pos, List, [], ◌∷◌, ◌++◌, Some, refl, sym, ◌∙◌, ap, subst, arith}
-use Rattle.std.specs.Prelude.{map}
+use Rattle.std.proofs.Common.{◌≡◌, ℕ, ◌<◌, ◌≤◌, ◌⊎◌, inl, inr, pos, List, [], Some, refl, ◌∙◌, ap, subst, arith}
 use Rattle.std.specs.Option.{option_map}
 use Rattle.c_tree.specs.declared.lifted.LExpr.{LExpr}
 use Rattle.c_tree.specs.declared.lifted.LExpr.TheVariants as l
@@ -14,18 +12,9 @@ use Rattle.c_tree.specs.Compute.{literals}
 use Rattle.c_tree.specs.Operators.{binding}
 use Rattle.c_tree.specs.MapExpr.{Reads, named, indexed, member, operated, numbered}
 use Rattle.c_grammar.specs.declared.value.Operand.{Operand}
-use Rattle.c_grammar.specs.declared.value.Value.TheVariants as value
 use Rattle.c_grammar.specs.Values.{operand}
-use Rattle.c_grammar.specs.Pieces.{map_piece}
-use Rattle.c_grammar.specs.Rules.{expr_start}
-use Rattle.c_reader.specs.Choices.{choices}
-use Rattle.c_reader.proofs.Limits.{is_reading}
-use Rattle.c_grammar.specs.Effects.{empty}
-use Rattle.c_grammar.specs.Reading.{Goes}
-use Rattle.c_grammar.specs.Reading as reading
-use Rattle.c_reader.proofs.Keeps.{Keeps, done}
 use Rattle.read_back.proofs.Printed.{Spelt, plain, hidden, temporary, Printed, number, null, name, element, field, prefixed, between, bracketed}
-use Rattle.read_back.proofs.Levels.{Builds, close, from_level}
+use Rattle.read_back.proofs.Levels.{Builds, from_level}
 use Rattle.read_back.proofs.Forms.{from_whole, number_built, null_built, plain_built, hidden_built, temporary_built, element_built, field_built, prefixed_built, between_built, bracketed_built}
 
 -- The tokens are read as a tree, and its numbers are the expression.
@@ -116,22 +105,3 @@ read (bracketed asked a b {room = room} {n = n} {ts = ts} le p) =
       numbers = y.numbers;
       builds = bracketed_built room n a b ts y.tree y.builds;
     })
-
--- As a whole expression.
-pub record WholeReading (r : Reads) (x : LExpr) (ts : List Token) : Type 0 where
-  pub tree : Operand
-  pub numbers : numbered r tree.expr.kind ≡ Some x
-  pub keeps : Keeps choices (value.Operand tree ∷ []) expr_start empty (map map_piece ts)
-  pub reading : reading.IsReading expr_start (map map_piece ts) (value.Operand tree ∷ [])
-
-pub append_none : (ps : List Piece) → ps ++ [] ≡ ps
-append_none [] = refl
-append_none (p ∷ ps) = ap (λ x. p ∷ x) (append_none ps)
-
-pub reads_whole : (r : Reads) (x : LExpr) (ts : List Token) (n : ℕ) → Printed r 100 0 x ts n → n ≤ 1000 → WholeReading r x ts
-reads_whole r x ts n p few =
-    let y = read p in
-    let keeps : Keeps choices (value.Operand y.tree ∷ []) expr_start empty (map map_piece ts) =
-    subst (λ ps. Keeps choices (value.Operand y.tree ∷ []) expr_start empty ps) (append_none (map map_piece ts))
-    (y.builds (value.Operand y.tree ∷ []) [] empty [] (omega arith) (omega (arith, few)) (λ after like. close 0 _ [] after [] (omega arith) (done (sym like.values)))) in
-    record { tree = y.tree; numbers = y.numbers; keeps = keeps; reading = is_reading expr_start _ (map map_piece ts) (refl, (λ k b m. m, tt)) keeps }

@@ -1,6 +1,6 @@
 -- The text of an expression gives the tokens of a printed one.
-use Rattle.std.proofs.Common.{◌≡◌, ℕ, suc, ◌+◌, ◌<◌, ◌≤◌, ◌^◌, Bool, true, false, pos, List, [], ◌∷◌, ◌++◌, length, refl, sym, ap, subst, ◌∙◌, arith, append_assoc, append-nil}
-use Rattle.std.specs.Prelude.{Some, None, nat_eq, nat_lt, if◌then◌else◌, ◌==◌, codes}
+use Rattle.std.proofs.Common.{◌≡◌, ℕ, suc, ◌+◌, ◌<◌, ◌≤◌, ◌^◌, Bool, true, false, pos, List, [], ◌∷◌, ◌++◌, length, refl, sym, ap, subst, ◌∙◌, arith, append_assoc}
+use Rattle.std.specs.Prelude.{Some, nat_eq, nat_lt, if◌then◌else◌, ◌==◌, codes}
 use Rattle.std.specs.Fmt.{decimal}
 use Rattle.std.specs.Int.{IsInRange}
 use Rattle.std.specs.Str.Parse.{AllDigits}
@@ -20,8 +20,6 @@ use Rattle.c_tree.specs.Operators.{bin_text, binding}
 use Rattle.c_tree.specs.MapExpr.{Reads, named, array_named, member, operator}
 use Rattle.c_tree.specs.Shown.{strength, spaced, within, sign, signed, shown}
 use Rattle.read_back.proofs.Printed.{token_at, un_place, bin_place, IsAnyName, Spelt, plain, hidden, temporary, Printed, number, null, name, element, field, prefixed, between, bracketed}
-use Rattle.c_tokens.specs.Text.{scanned, text_from, text_of}
-use Rattle.read_back.proofs.ReadsBack.{WholeReading, reads_whole}
 use Rattle.read_back.proofs.Scan.{Gives, Stops, both_give, blank_gives, left_paren, right_paren, left_bracket, right_bracket, arrow, dot, operator_gives, minus_gives, not_gives, flip_gives, IsWord, word_gives, number_gives}
 
 -- a name, by its first byte and the others
@@ -420,20 +418,3 @@ scans {r = r} (fit_field asked b bytes p owner field_number {room = room} {n = n
 scans {r = r} (fit_prefixed asked op a {room = room} {n = n} le f) = prefixed_scans r asked room n op a le (scans f)
 scans {r = r} (fit_between asked op a b {room = room} {n = n} {m = m} le is f g) = between_scans r asked room n m op a b le is (scans f) (scans g)
 scans {r = r} (fit_bracketed asked x {room = room} {n = n} lt le f) = bracketed_scans r asked room n x lt le (scans f)
-
--- The text of an expression scans without a fault, and is read as a tree whose numbers are the expression, and as nothing else.
-pub record TextReadsBack (r : Reads) (x : LExpr) : Type 0 where
-  pub clean : (text_of (shown r x)).fault ≡ None
-  pub reading : WholeReading r x (text_of (shown r x)).tokens
-
-pub text_reads_back : (r : Reads) (x : LExpr) (n : ℕ) → Fit r 0 100 x n → n ≤ 1000 → TextReadsBack r x
-unfolding text_from
-text_reads_back r x n f few =
-    let y = (scans f).gives [] 0 tt in
-    let plain_text : operand_text r 0 x ≡ shown r x = unbracketed 0 (strength x) (shown r x) (omega arith) in
-    let whole : text_of (shown r x) ≡ scanned y.tokens None =
-    sym (ap text_of plain_text) ∙ ap text_of (sym (append-nil (operand_text r 0 x))) ∙ y.found ∙ ap (λ ts. scanned ts None) (append-nil y.tokens) in
-    record {
-      clean = ap (λ s. s.fault) whole;
-      reading = subst (λ s. WholeReading r x s.tokens) (sym whole) (reads_whole r x y.tokens n y.printed few);
-    }

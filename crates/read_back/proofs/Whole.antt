@@ -34,7 +34,6 @@ use Rattle.patch_laws.proofs.LiftedSound.{lifted_apart}
 use Rattle.patch_laws.proofs.OrderedLink.{link_ordered}
 use Rattle.patch_laws.proofs.Clash.{AllLift}
 use Rattle.patch_laws.proofs.Known.{all_lift}
-use Rattle.read_back.proofs.ReadsBack.{append_none}
 use Rattle.read_back.proofs.Again.{canonical_again}
 use Rattle.read_back.proofs.Parts.{Part, Then, after_part, part_does, part_of, first_acted, nothing_taken, semicolon_line}
 use Rattle.read_back.proofs.Entries.{ReadsEntry, entry_reads, all_sorted}
@@ -80,7 +79,7 @@ mapping_found k es all =
     let m : Mapping = record { entries = y.0 } in
     let whole : text_of text ≡ scanned x.tokens None = ap text_of (sym (append-nil text)) ∙ (x.found ∙ ap (λ ts. scanned ts None) (append-nil x.tokens)) in
     let keeps : Keeps choices (value.Mapping m ∷ []) map_start empty (map map_piece x.tokens) =
-    subst (λ ps. Keeps choices (value.Mapping m ∷ []) map_start empty ps) (append_none (map map_piece x.tokens))
+    subst (λ ps. Keeps choices (value.Mapping m ∷ []) map_start empty ps) (append-nil (map map_piece x.tokens))
     (x.moves (value.Mapping m ∷ []) [] empty [] (record { shallow = refl; few = omega arith }) (λ after calm e. done (sym (e ∙ y.2)))) in
     record {
       mapping = m;
