@@ -18,9 +18,9 @@ pub fn bytes_have_one_answer()
     canonical_text_reads_back();
 }
 
-/// A patch that `make_patch` makes of two accepted sources and a mapping that was read is read back:
-/// `read_patch` takes the bytes that `write_patch` gives as this patch and refuses them for nothing,
-/// where they are no more than a file may have.
+/// A patch that `make_patch` makes of two accepted sources and a mapping that was read reads back:
+/// `read_patch` takes the bytes that `write_patch` gives as this patch, and refuses them for no
+/// cause, where they are no more than a file may have.
 pub fn made_patches_read_back()
     ensures { laws.MadePatchesReadBack }
 {

@@ -7,8 +7,8 @@ use Rattle.c_tree.specs.Canonical.{canonical_entries, canonical_text}
 use Rattle.c_grammar.specs.Mapping.{IsMappingOf}
 use Rattle.c_source.specs.Source.{IsAccepted}
 
--- Of a text that is a mapping, whose entries lift between the programs of two accepted sources: the canonical text of these
--- entries is a mapping, and its canonical entries are the same.
+-- Of a text that is a mapping, each of whose entries is sound between the programs of two accepted sources: the canonical text
+-- of the entries is a mapping, and its canonical entries are the same.
 abbrev pub CanonicalTextReadsBack : Type 0
 CanonicalTextReadsBack =
     (old new text : List ℕ) (p q : Lifted) (m : Mapping) (es : List LEntry) → IsAccepted old p → IsAccepted new q → IsMappingOf text m

@@ -2,8 +2,9 @@
 
 ghost use Rattle.read_back.specs.Laws.{CanonicalTextReadsBack};
 
-/// Where the entries of a mapping of two accepted sources lift to numbers, the text of these entries
-/// in their canonical order is a mapping too, and its canonical entries are the same.
+/// Where each entry of a mapping that was read is sound between the programs of two accepted
+/// sources, the canonical text of the entries is a mapping too, and its canonical entries are the
+/// same.
 pub fn canonical_text_reads_back()
     ensures { CanonicalTextReadsBack }
 {}
