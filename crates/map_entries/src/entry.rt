@@ -17,12 +17,7 @@ use patch_match::{Link, lifted_match};
 use std::alloc::Global;
 
 /// A match by numbers.
-fn match_entry(
-    k: &Link<'_>,
-    kind: u8,
-    a: &Name,
-    b: &Option<Name>,
-) -> Result<LEntry, EntryRefused>
+fn match_entry(k: &Link<'_>, kind: u8, a: &Name, b: &Option<Name>) -> Result<LEntry, EntryRefused>
     ensures { Gives result (chain.lifted_match k.now.old k.now.new kind a.now b.now) }
 {
     let lifted = lifted_match(k.old(), k.new(), kind, a, b)?;

@@ -1,9 +1,3 @@
-pub mod Readings
+mod Readings
 mod Answered
-mod Literals
-mod Contracts
-mod Operands
-mod EntriesKept
-mod MapRules
-pub mod Kept
 mod MapForms

@@ -3,4 +3,3 @@ pub use Rattle.c_grammar.specs.Mapping
 pub mod Refusal
 pub mod Answered
 pub mod Formed
-pub mod Kept

@@ -3,7 +3,6 @@
 ghost use Rattle.c_grammar.specs.Mapping.{OneMapAnswer};
 ghost use Rattle.map_lang.specs.Answered.{EachIsAnswered};
 ghost use Rattle.map_lang.specs.Formed.{EachMappingHasTheForm};
-ghost use Rattle.map_lang.specs.Kept.{EachMappingIsKept};
 
 /// That each text is exactly one mapping or has exactly one first fault.
 pub fn each_mapping_has_one_answer()
@@ -16,11 +15,4 @@ pub fn each_mapping_has_one_answer()
 /// That each mapping that is read has the form that the laws of updates ask for.
 pub fn mappings_have_their_form()
     ensures { EachMappingHasTheForm }
-{}
-
-/// That each mapping that is read keeps the limits: its expressions open at most 100 constructs and
-/// have at most 1,000 operators each, its numbers are literals, and no new side of a match is the
-/// word `none`.
-pub fn mappings_keep_limits()
-    ensures { EachMappingIsKept }
 {}

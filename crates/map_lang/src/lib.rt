@@ -9,6 +9,6 @@ mod laws;
 mod reading;
 mod refused;
 
-pub use laws::{each_mapping_has_one_answer, mappings_have_their_form, mappings_keep_limits};
+pub use laws::{each_mapping_has_one_answer, mappings_have_their_form};
 pub use reading::read_map;
 pub use refused::MapRefused;

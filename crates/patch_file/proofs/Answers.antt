@@ -13,16 +13,20 @@ use Rattle.c_tree.specs.Canonical.{canonical_entries, canonical_text}
 use Rattle.c_tree.specs.Entries.{Unsound}
 use Rattle.patch_form.specs.Framing.{framed, before_old, before_new, before_map, IsFraming, IsCutShort, IsBadAt}
 use Rattle.patch_form.specs.Laws.{OneFraming, NoneIsShort, NoneIsBad, NoShortIsBad, OneOffset}
+use Rattle.c_reader.specs.Spelling.{CanBeSpelt}
+use Rattle.c_reader.proofs.Spelling.{liftings_spelt}
 use Rattle.c_source.specs.Laws.{OneVerdict}
 use Rattle.c_source.specs.Source.{IsAccepted, IsRefused}
 use Rattle.patch_file.specs.Laws.{OneAnswer}
 use Rattle.patch_file.specs.Refused.{IsFirstDifference, TextsRefused, old_source, new_source, map_text, entry, not_canonical, IsFileRefused, too_long, short, bad_head, texts}
 use Rattle.patch_file.specs.Whole.{IsFileOf, IsWhole, file_of, map_of}
+use Rattle.read_back.specs.Laws.{CanonicalTextReadsBack}
 
 -- the laws that this one rests on
 pub record Laws : Type 0 where
   pub source : OneVerdict
   pub mapping : OneMapAnswer
+  pub canonical : CanonicalTextReadsBack
   pub texts : OneFraming
   pub not_short : NoneIsShort
   pub not_bad : NoneIsBad
@@ -145,22 +149,43 @@ one_text laws old new mapping a b e f (not_canonical p q m es i old1 new1 read i
 one_text laws old new mapping a b e f (not_canonical p q m es i old1 new1 read is differs at why) (not_canonical p' q' m' es' i' old1' new1' read' is' differs' at' why') =
     one_end laws old new mapping p p' q q' m m' es es' i i' a b old1 old1' new1 new1' read read' is is' differs differs' (at, at') (why, why')
 
+-- the text of a patch's entries is a mapping, whose canonical entries they are
+record IsReadBack (p : Patch) : Type 0 where
+  mapping : Mapping
+  read : IsMappingOf (map_of p) mapping
+  entries : answer p.old p.new mapping ≡ Ok p.entries
+
+-- the names of an accepted program can be spelt
+accepted_spelt : (source : List ℕ) (p : Lifted) → IsAccepted source p → CanBeSpelt p
+accepted_spelt source p a = subst CanBeSpelt (sym a.lifted) (liftings_spelt source a.tree a.read a.small)
+
+-- So is that of a whole patch.
+read_back : Laws → (p : Patch) → IsWhole p → IsReadBack p
+read_back laws p whole =
+    let old = accepted_spelt p.old_text p.old whole.old in
+    let new = accepted_spelt p.new_text p.new whole.new in
+    let again = laws.canonical whole.text p.old p.new whole.mapping p.entries old new whole.read whole.entries in
+    record { mapping = again.0; read = again.1; entries = again.2 }
+
 -- a whole patch's texts are not refused
 no_text : Laws → (p : Patch) (old new mapping : List ℕ) (at : ℕ) (c : FileCause) → IsWhole p → old ≡ p.old_text → new ≡ p.new_text → mapping ≡ map_of p → TextsRefused old new mapping at c → ⊥
 no_text laws p old new mapping at c whole o n m refused =
     inner (subst (λ (t : List ℕ). TextsRefused p.old_text p.new_text t at c) m (subst (λ (t : List ℕ). TextsRefused p.old_text t mapping at c) n (subst (λ (t : List ℕ). TextsRefused t new mapping at c) o refused)))
   where
+    again : IsReadBack p
+    again = read_back laws p whole
+
     inner : TextsRefused p.old_text p.new_text (map_of p) at c → ⊥
     inner (old_source i why is e f) = laws.source.never_both p.old_text i p.old why whole.old is
     inner (new_source x i why acc is e f) = laws.source.never_both p.new_text i p.new why whole.new is
-    inner (map_text x y i why acc ace is e f) = laws.mapping.never_both (map_of p) i whole.mapping why whole.read is
+    inner (map_text x y i why acc ace is e f) = laws.mapping.never_both (map_of p) i again.mapping why again.read is
     inner (entry x y k u acc ace read is e f) =
-        no_ok p.entries u (sym whole.entries ∙ same_answer p.old p.new x y whole.mapping k (laws.source.one_program p.old_text p.old x whole.old acc)
-        (laws.source.one_program p.new_text p.new y whole.new ace) (laws.mapping.one_mapping (map_of p) whole.mapping k whole.read read) ∙ is)
+        no_ok p.entries u (sym again.entries ∙ same_answer p.old p.new x y again.mapping k (laws.source.one_program p.old_text p.old x whole.old acc)
+        (laws.source.one_program p.new_text p.new y whole.new ace) (laws.mapping.one_mapping (map_of p) again.mapping k again.read read) ∙ is)
     inner (not_canonical x y k es i acc ace read is differs e f) =
         let olds = laws.source.one_program p.old_text p.old x whole.old acc in
         let news = laws.source.one_program p.new_text p.new y whole.new ace in
-        let same = same_ok p.entries es (sym whole.entries ∙ same_answer p.old p.new x y whole.mapping k olds news (laws.mapping.one_mapping (map_of p) whole.mapping k whole.read read) ∙ is) in
+        let same = same_ok p.entries es (sym again.entries ∙ same_answer p.old p.new x y again.mapping k olds news (laws.mapping.one_mapping (map_of p) again.mapping k again.read read) ∙ is) in
         let text : map_of p ≡ canonical_text x y es = ap (λ z. canonical_text z p.new p.entries) olds ∙ ap (λ z. canonical_text x z p.entries) news ∙ ap (λ z. canonical_text x y z) same in
         differs_itself i (map_of p) (canonical_text x y es) text differs
 
@@ -177,11 +202,13 @@ never_both laws bytes at p c (whole, is) (texts old new mapping fits bytes_are r
 
 one_patch : Laws → (bytes : List ℕ) (p q : Patch) → IsFileOf bytes p → IsFileOf bytes q → p ≡ q
 one_patch laws bytes p q (a, is) (b, it) =
+    let x = read_back laws p a in
+    let y = read_back laws q b in
     let same = laws.texts p.old_text p.new_text (map_of p) q.old_text q.new_text (map_of q) (sym is ∙ it) in
     let olds = laws.source.one_program q.old_text p.old q.old (subst (λ (t : List ℕ). IsAccepted t p.old) same.0 a.old) b.old in
     let news = laws.source.one_program q.new_text p.new q.new (subst (λ (t : List ℕ). IsAccepted t p.new) same.1 a.new) b.new in
-    let maps = laws.mapping.one_mapping (map_of q) a.mapping b.mapping (subst (λ (t : List ℕ). IsMappingOf t a.mapping) same.2 a.read) b.read in
-    let entries = same_ok p.entries q.entries (sym a.entries ∙ same_answer p.old p.new q.old q.new a.mapping b.mapping olds news maps ∙ b.entries) in
+    let maps = laws.mapping.one_mapping (map_of q) x.mapping y.mapping (subst (λ (t : List ℕ). IsMappingOf t x.mapping) same.2 x.read) y.read in
+    let entries = same_ok p.entries q.entries (sym x.entries ∙ same_answer p.old p.new q.old q.new x.mapping y.mapping olds news maps ∙ y.entries) in
     λ i. record { old_text = same.0 i; old = olds i; new_text = same.1 i; new = news i; entries = entries i }
 
 one_refusal : Laws → (bytes : List ℕ) (a b : ℕ) (c d : FileCause) → IsFileRefused bytes a c → IsFileRefused bytes b d → (a ≡ b) × (c ≡ d)

@@ -52,8 +52,9 @@ file bytes f x fits is of =
       record {
         old = subst (λ (t : List ℕ). IsAccepted t x.old) (sym of.made.old_text) of.read.old;
         new = subst (λ (t : List ℕ). IsAccepted t x.new) (sym of.made.new_text) of.read.new;
+        text = f.map.text.now;
         mapping = of.mapping;
-        read = subst (λ (t : List ℕ). IsMappingOf t of.mapping) of.canonical of.read.mapping;
+        read = of.read.mapping;
         entries = of.made.entries.are;
         small = subst (λ (t : List ℕ). length t ≤ 4194304) bytes_are fits;
       },

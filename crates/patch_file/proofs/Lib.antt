@@ -1,3 +1,4 @@
 mod Refusals
 mod Files
 mod Answers
+mod Made

@@ -19,13 +19,14 @@ map_of p = canonical_text p.old p.new p.entries
 abbrev pub file_of : Patch → List ℕ
 file_of p = framed p.old_text p.new_text (map_of p)
 
--- A patch is whole: its programs are those of its sources, the text of its entries is a mapping, whose canonical entries they
--- are, and its file has at most so many bytes.
+-- A patch is whole: its programs are those of its sources, its entries are the canonical ones of a mapping that some text is,
+-- and its file has at most so many bytes.
 pub record IsWhole (p : Patch) : Type 0 where
   pub old : IsAccepted p.old_text p.old
   pub new : IsAccepted p.new_text p.new
+  pub text : List ℕ
   pub mapping : Mapping
-  pub read : IsMappingOf (map_of p) mapping
+  pub read : IsMappingOf text mapping
   pub entries : canonical_entries p.old p.new (map (λ x. x.it) mapping.entries) ≡ Ok p.entries
   pub small : length (file_of p) ≤ max_file
 

@@ -13,7 +13,7 @@ mod refused;
 mod writing;
 
 pub use difference::first_difference;
-pub use laws::bytes_have_one_answer;
+pub use laws::{bytes_have_one_answer, made_patches_read_back};
 pub use reading::read_patch;
 pub use refused::FileRefused;
 pub use writing::write_patch;

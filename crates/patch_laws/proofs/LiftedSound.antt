@@ -139,7 +139,7 @@ pairs_of_map {A} f (x ∷ rest) = ap (λ z. z || has_twice (map f rest)) (any f 
   any f [] = refl
   any f (y ∷ ys) = ap (λ z. f x == f y || z) (any f ys)
 
-twice_kept : (fills : List LFill) → has_twice (map (λ x. x.slot) (fills_in_order fills)) ≡ has_twice (map (λ x. x.slot) fills)
+pub twice_kept : (fills : List LFill) → has_twice (map (λ x. x.slot) (fills_in_order fills)) ≡ has_twice (map (λ x. x.slot) fills)
 twice_kept fills =
     pairs_of_map (λ x. x.slot) (fills_in_order fills)
     ∙ (sorted_pairs (λ a b. nat_lt a.slot b.slot) (λ x y. x.slot == y.slot) (λ x y. eqb_swapped x.slot y.slot) fills ∙ sym (pairs_of_map (λ x. x.slot) fills))

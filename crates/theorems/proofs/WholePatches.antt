@@ -10,7 +10,7 @@ use Rattle.c_tree.specs.MapForm.{HasMapForm}
 use Rattle.c_tree.specs.Refusal.{onward}
 use Rattle.c_tree.specs.Sound.{Sound}
 use Rattle.map_lang.specs.Formed.{EachMappingHasTheForm}
-use Rattle.patch_file.specs.Whole.{IsWhole, map_of}
+use Rattle.patch_file.specs.Whole.{IsWhole}
 use Rattle.patch_laws.specs.Laws.{LiftedEntriesAreSound}
 use Rattle.c_source.specs.Laws.{AcceptedIsFormed, OneVerdict}
 use Rattle.c_source.specs.Source.{IsAccepted}
@@ -30,7 +30,7 @@ of_lifted old new m es (Err u) law form is e = absurd (let no : ⊥ = cc in no)
 pub whole_is_sound : (p : Patch) → IsWhole p → LiftedEntriesAreSound → EachMappingHasTheForm → Sound p.old p.new p.entries
 whole_is_sound p whole law formed =
     of_lifted p.old p.new whole.mapping p.entries (lifted_entries p.old p.new (map (λ x. x.it) whole.mapping.entries)) law
-    (formed (map_of p) whole.mapping whole.read) refl whole.entries
+    (formed whole.text whole.mapping whole.read) refl whole.entries
 
 -- a whole patch of a source arms its program well
 pub armed_by : (source : List ℕ) (p : Lifted) (patch : Patch) → IsAccepted source p → IsWhole patch → source ≡ patch.old_text → AcceptedIsFormed → OneVerdict → LiftedEntriesAreSound

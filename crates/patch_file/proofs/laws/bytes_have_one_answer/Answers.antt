@@ -7,6 +7,7 @@ returns c =
     one_answer (record {
       source = c.a_source_has_one_verdict.ensures;
       mapping = c.a_mapping_has_one_answer.ensures;
+      canonical = c.canonical_text_reads_back.ensures;
       texts = frame.texts;
       not_short = frame.not_short;
       not_bad = frame.not_bad;

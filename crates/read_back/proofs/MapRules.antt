@@ -16,9 +16,9 @@ use Rattle.c_grammar.specs.Effects.{State, binary_of, effect, with_token, value_
 use Rattle.c_grammar.specs.Reading.{Among, first, later}
 use Rattle.c_grammar.specs.Tokens.{map_kind_of}
 use Rattle.c_reader.specs.Choices.{choices}
-use Rattle.map_lang.proofs.Contracts.{Claim, Level, Tail, OperatorAt, Filled, Reads, LeadsOn}
-use Rattle.map_lang.proofs.Operands.{same_le, rebase, lower, down, whole, bin_made, un_made, group_made, index_made, field_made, name_made, hidden_made, temporary_made, number_made, null_made, eof_made}
-use Rattle.map_lang.proofs.EntriesKept.{doc_past, match_done, unmatched_done, field_done, init_done, check_done, point_done, number_point, no_fills, fills_past, fill_done, is_meant, new_word, same_kind}
+use Rattle.read_back.proofs.Contracts.{Claim, Level, Tail, OperatorAt, Filled, Reads, LeadsOn}
+use Rattle.read_back.proofs.Operands.{same_le, rebase, lower, down, whole, bin_made, un_made, group_made, index_made, field_made, name_made, hidden_made, temporary_made, number_made, null_made, eof_made}
+use Rattle.read_back.proofs.EntriesKept.{doc_past, match_done, unmatched_done, field_done, init_done, check_done, point_done, number_point, no_fills, fills_past, fill_done, is_meant, new_word, same_kind}
 
 -- an operator of a level, by the kind of its sign
 operator_at : (q : Kind) (level : ℕ) (t : Token) → is_meant q ≡ false → binding (binary_of q) ≡ level → map_kind_of t.kind ≡ q → OperatorAt level t

@@ -20,8 +20,8 @@ use Rattle.c_grammar.specs.Reading.{depth_limit}
 use Rattle.c_grammar.specs.Tokens.{kind_of, map_kind_of, map_word_kind, text_of}
 use Rattle.c_grammar.specs.Values.{mapping_in}
 use Rattle.c_reader.specs.Depth.{least}
-use Rattle.map_lang.specs.Kept.{Fitting, IsKeptExpr, IsKeptPoint, IsKept}
-use Rattle.map_lang.proofs.Literals.{HasLiteral}
+use Rattle.read_back.specs.Kept.{Fitting, IsKeptExpr, IsKeptPoint, IsKept}
+use Rattle.read_back.proofs.Literals.{HasLiteral}
 
 -- what is said of a state, and of how few constructs can be open before the next token
 abbrev pub Claim : Type 1

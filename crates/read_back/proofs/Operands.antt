@@ -16,9 +16,9 @@ use Rattle.c_grammar.specs.declared.value.Value.TheVariants as value
 use Rattle.c_grammar.specs.Effects.{State, binary_of, unary_of, effect, with_token, value_effect}
 use Rattle.c_grammar.specs.Tokens.{kind_of, number_of, natural, text_of}
 use Rattle.c_grammar.specs.Values.{operand_in}
-use Rattle.map_lang.specs.Kept.{Fitting, number, null, eof, name, slot, element, field, prefixed, between, bracketed, IsKeptExpr}
-use Rattle.map_lang.proofs.Contracts.{Claim, Made, Level, Tail, OperatorAt}
-use Rattle.map_lang.proofs.Literals.{IsLiteral, HasLiteral}
+use Rattle.read_back.specs.Kept.{Fitting, number, null, eof, name, slot, element, field, prefixed, between, bracketed, IsKeptExpr}
+use Rattle.read_back.proofs.Contracts.{Claim, Made, Level, Tail, OperatorAt}
+use Rattle.read_back.proofs.Literals.{IsLiteral, HasLiteral}
 
 pub same_le : (n : ℕ) → n ≤ n
 same_le n = omega arith

@@ -13,14 +13,17 @@ use Rattle.c_grammar.specs.Rules.{map_start}
 use Rattle.c_grammar.specs.Tokens.{map_kind_of}
 use Rattle.c_grammar.specs.Values.{mapping_in, no_mapping}
 use Rattle.c_reader.specs.Depth.{least}
+use Rattle.c_reader.specs.Follow.{FitsReader}
 use Rattle.c_reader.proofs.Bounded.{Bounded, bounded, done, takes_one, passes_on, acts, expands}
 use Rattle.c_tokens.specs.Text.{text_of}
-use Rattle.map_lang.specs.Kept.{IsKept, EachMappingIsKept}
-use Rattle.map_lang.proofs.Contracts.{Doc, LeadsOn}
-use Rattle.map_lang.proofs.EntriesKept.{no_entries}
-use Rattle.map_lang.proofs.Literals.{HasLiteral, HaveLiterals, text_has}
-use Rattle.map_lang.proofs.MapRules.{does}
-use Rattle.map_lang.proofs.Readings.{start_fits}
+use Rattle.read_back.specs.Kept.{IsKept, EachMappingIsKept}
+use Rattle.read_back.proofs.Contracts.{Doc, LeadsOn}
+use Rattle.read_back.proofs.EntriesKept.{no_entries}
+use Rattle.read_back.proofs.Literals.{HasLiteral, HaveLiterals, text_has}
+use Rattle.read_back.proofs.MapRules.{does}
+
+start_fits : FitsReader map_start
+start_fits = (refl, (λ k b m. m, tt))
 
 -- what the grammar sees of a token
 record IsSeen (p : Piece) : Type 0 where

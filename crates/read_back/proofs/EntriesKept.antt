@@ -22,10 +22,10 @@ use Rattle.c_grammar.specs.Tokens.{kind_in, kind_of, map_kind_of, word_kind, map
 use Rattle.c_grammar.specs.Values.{mapping_in, fills_in}
 use Rattle.c_grammar.specs.Words.{map_words, words}
 use Rattle.c_grammar.specs.Words as of
-use Rattle.map_lang.specs.Kept.{IsKeptExpr, IsKeptNumber, IsKeptPoint, IsKeptEntry, IsKept}
-use Rattle.map_lang.proofs.Contracts.{Made, Doc, Filled, NewWord}
-use Rattle.map_lang.proofs.Literals.{HasLiteral}
-use Rattle.map_lang.proofs.Operands.{is_kept, natural_of}
+use Rattle.read_back.specs.Kept.{IsKeptExpr, IsKeptNumber, IsKeptPoint, IsKeptEntry, IsKept}
+use Rattle.read_back.proofs.Contracts.{Made, Doc, Filled, NewWord}
+use Rattle.read_back.proofs.Literals.{HasLiteral}
+use Rattle.read_back.proofs.Operands.{is_kept, natural_of}
 
 more_entries : (m : Mapping) (at : ℕ) (x : Entry) → IsKept m → IsKeptEntry x → IsKept (with_entry m at x)
 more_entries m at x h i = All-push (λ y. IsKeptEntry y.it) m.entries _ h i

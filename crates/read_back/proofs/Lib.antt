@@ -1,0 +1,29 @@
+-- of a mapping that was read
+mod Literals
+mod Contracts
+mod Operands
+mod EntriesKept
+mod MapRules
+mod Kept
+-- from tokens to a derivation
+mod Printed
+mod Levels
+mod Forms
+mod ReadsBack
+-- from text to tokens
+mod Scan
+mod Shown
+-- from numbers to numbers
+mod Numbering
+mod Spelt
+mod Fits
+mod Places
+mod Again
+-- from an entry to its tokens
+mod Joined
+mod Parts
+mod Fills
+mod Entries
+-- all of it
+mod Whole
+mod Law
