@@ -29,8 +29,6 @@ mod programs;
 #[cfg(test)]
 mod repeats;
 #[cfg(test)]
-mod row_calls_rows;
-#[cfg(test)]
 mod store_mem_rows;
 #[cfg(test)]
 mod up_base_rows;

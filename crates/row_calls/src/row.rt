@@ -97,8 +97,8 @@ impl<T: Tool> Trial for Sourced<'_, T> {
     }
 }
 
-/// Makes the call with these words for the source that is the text of each row of a table, and tells
-/// of those rows that came to something else.
+/// Makes the call with these words for each source of a table, the text of a row, and tells of
+/// those rows that came to something else.
 ///
 /// # Errors
 /// Memory for the files, the sinks and the texts.

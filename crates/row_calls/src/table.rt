@@ -1,8 +1,8 @@
 //! Tables as one text: a line `=== ` with the name of a row, the lines of its text, a line `---`,
 //! and the lines of its answer.
 //!
-//! Neither text nor answer has its last newline; an answer of nothing is an empty line. One constant is
-//! cheaper to prove than as many as a table has parts.
+//! Neither text nor answer has its last newline; an answer of nothing is an empty line.
+//! One constant is cheaper to prove than as many as a table has parts.
 
 use std::alloc::{AllocError, Global};
 
