@@ -10,6 +10,7 @@ mod compared;
 mod events;
 mod repeated;
 mod row;
+mod table;
 mod tool;
 mod update;
 mod verdict;
@@ -19,9 +20,10 @@ pub use compared::{compare, opened};
 pub use events::listing;
 pub use repeated::{Repeated, text_of};
 pub use row::{
-    CallRow, FaultRow, LongRow, SourceRow, called_on, differing_calls, differing_faults,
+    CallRow, FaultRow, LongRow, called_on, differing_calls, differing_faults,
     differing_long_sources, differing_sources,
 };
+pub use table::{Row, Trial, differing_rows};
 pub use tool::Tool;
 pub use update::{ListingRow, Programs, UpdateRow, differing_listings, differing_updates};
 pub use verdict::{RowsDiffer, judged};

@@ -3,6 +3,7 @@
 use crate::call::{Call, Faults, Shown, called};
 use crate::compared::compare;
 use crate::repeated::{Repeated, text_of};
+use crate::table::{Row, Trial, differing_rows};
 use crate::tool::Tool;
 use std::alloc::{AllocError, Global};
 
@@ -12,9 +13,6 @@ pub type CallRow<'a> = (&'a str, &'a str, &'a [(&'a str, &'a str)], &'a str);
 /// A call in which an access fails: its name, the words, which accesses fail, the files by their
 /// names, and what it comes to.
 pub type FaultRow<'a> = (&'a str, &'a str, Faults, &'a [(&'a str, &'a str)], &'a str);
-
-/// A call over a file `a.c`: its name, what the file holds, and what the call comes to.
-pub type SourceRow<'a> = (&'a str, &'a str, &'a str);
 
 /// A call over a long file `a.c`: its name, what the file holds, and what the call comes to.
 pub type LongRow<'a> = (&'a str, Repeated<'a>, &'a str);
@@ -83,8 +81,24 @@ pub fn called_on<T: Tool>(
     called(alloc, tool, &call, shown)
 }
 
-/// Makes the call with these words for each source of a table, and tells of those rows that came to
-/// something else.
+/// A call with these words over a file `a.c` that holds the text of a row.
+#[derive(Drop)]
+struct Sourced<'a, T> {
+    tool: &'a T,
+    words: &'a str,
+    shown: Shown,
+}
+
+impl<T: Tool> Trial for Sourced<'_, T> {
+    fn put(&self, differing: &mut String, alloc: Global, row: &Row<'_>) -> Result<(), AllocError> {
+        let wanted = format!(in alloc; "{}\n", row.answer)?;
+        let got = called_on(alloc, self.tool, self.words, row.text, self.shown)?;
+        compare(differing, row.name, &wanted, &got)
+    }
+}
+
+/// Makes the call with these words for each source of a table, the text of a row, and tells of
+/// those rows that came to something else.
 ///
 /// # Errors
 /// Memory for the files, the sinks and the texts.
@@ -93,14 +107,10 @@ pub fn differing_sources<T: Tool>(
     tool: &T,
     words: &str,
     shown: Shown,
-    rows: &[SourceRow<'_>],
+    table: &str,
 ) -> Result<String, AllocError> {
-    let mut differing = String::new(alloc);
-    for (name, source, wanted) in rows {
-        let got = called_on(alloc, tool, words, source, shown)?;
-        compare(&mut differing, name, wanted, &got)?;
-    }
-    Ok(differing)
+    let trial = Sourced { tool, words, shown };
+    differing_rows(alloc, &trial, table)
 }
 
 /// Makes the call with these words for each long source of a table, and tells of those rows that

@@ -2,15 +2,21 @@
 //! place and the cause of its first fault.
 
 mod accepted;
+mod assigned;
 mod calls;
 mod file;
 mod limits;
-mod names;
+mod operators;
+mod parts;
 mod reading;
-mod values;
+mod twice;
+mod unknown;
 
 use crate::tool::Upstare;
-use row_calls::{RowsDiffer, Shown, SourceRow, called_on, compare, differing_long_sources, judged};
+use row_calls::{
+    Row, RowsDiffer, Shown, Trial, called_on, compare, differing_long_sources, differing_rows,
+    judged,
+};
 use std::alloc::{AllocError, Global};
 
 /// What a call comes to that gives this answer: `ok` and the counts, or the offset and the cause.
@@ -21,44 +27,60 @@ fn wanted_of(alloc: Global, answer: &str) -> Result<String, AllocError> {
     format!(in alloc; "err: source a.c at {answer}\nstatus 2\n")
 }
 
-fn differing_answers(alloc: Global, rows: &[SourceRow<'_>]) -> Result<String, AllocError> {
-    let mut differing = String::new(alloc);
-    for (name, source, answer) in rows {
-        let wanted = wanted_of(alloc, answer)?;
-        let got = called_on(alloc, &Upstare, "check a.c", source, Shown::All)?;
-        compare(&mut differing, name, &wanted, &got)?;
+/// The call of `check` over a file that holds the text of a row.
+struct Checked;
+
+impl Trial for Checked {
+    fn put(&self, differing: &mut String, alloc: Global, row: &Row<'_>) -> Result<(), AllocError> {
+        let wanted = wanted_of(alloc, row.answer)?;
+        let got = called_on(alloc, &Upstare, "check a.c", row.text, Shown::All)?;
+        compare(differing, row.name, &wanted, &got)
     }
-    Ok(differing)
 }
 
 #[test]
 fn accepted_programs_are_counted(rt: HostRuntime) -> Result<(), RowsDiffer> {
-    judged(differing_answers(rt.alloc(), accepted::ROWS))
-}
-
-#[test]
-fn faults_of_calls_are_told(rt: HostRuntime) -> Result<(), RowsDiffer> {
-    judged(differing_answers(rt.alloc(), calls::ROWS))
+    judged(differing_rows(rt.alloc(), &Checked, accepted::ROWS))
 }
 
 #[test]
 fn faults_of_a_file_are_told(rt: HostRuntime) -> Result<(), RowsDiffer> {
-    judged(differing_answers(rt.alloc(), file::ROWS))
+    judged(differing_rows(rt.alloc(), &Checked, file::ROWS))
 }
 
 #[test]
-fn faults_of_names_are_told(rt: HostRuntime) -> Result<(), RowsDiffer> {
-    judged(differing_answers(rt.alloc(), names::ROWS))
+fn faults_of_assigned_values_are_told(rt: HostRuntime) -> Result<(), RowsDiffer> {
+    judged(differing_rows(rt.alloc(), &Checked, assigned::ROWS))
+}
+
+#[test]
+fn faults_of_calls_are_told(rt: HostRuntime) -> Result<(), RowsDiffer> {
+    judged(differing_rows(rt.alloc(), &Checked, calls::ROWS))
+}
+
+#[test]
+fn faults_of_operators_are_told(rt: HostRuntime) -> Result<(), RowsDiffer> {
+    judged(differing_rows(rt.alloc(), &Checked, operators::ROWS))
+}
+
+#[test]
+fn faults_of_parts_are_told(rt: HostRuntime) -> Result<(), RowsDiffer> {
+    judged(differing_rows(rt.alloc(), &Checked, parts::ROWS))
 }
 
 #[test]
 fn faults_of_reading_are_told(rt: HostRuntime) -> Result<(), RowsDiffer> {
-    judged(differing_answers(rt.alloc(), reading::ROWS))
+    judged(differing_rows(rt.alloc(), &Checked, reading::ROWS))
 }
 
 #[test]
-fn faults_of_values_are_told(rt: HostRuntime) -> Result<(), RowsDiffer> {
-    judged(differing_answers(rt.alloc(), values::ROWS))
+fn names_declared_twice_are_told(rt: HostRuntime) -> Result<(), RowsDiffer> {
+    judged(differing_rows(rt.alloc(), &Checked, twice::ROWS))
+}
+
+#[test]
+fn unknown_names_are_told(rt: HostRuntime) -> Result<(), RowsDiffer> {
+    judged(differing_rows(rt.alloc(), &Checked, unknown::ROWS))
 }
 
 #[test]

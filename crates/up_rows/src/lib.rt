@@ -5,7 +5,7 @@
 //! arrays, `input` what they read, `threads` several threads, `histories` files of histories and
 //! schedules, `mappings` what comes of a mapping, `patches` the command `patch`, `patch_files`
 //! bytes that are no patch, `transforming` transformed programs, `loading` the command `load`,
-//! `faults` accesses that fail, `usage` the words.
+//! `faults` accesses that fail, `usage` the words; `tables` shows how a table is read.
 #![tactic(auto)]
 
 #[cfg(test)]
@@ -30,6 +30,8 @@ mod patch_files;
 mod patches;
 #[cfg(test)]
 mod running;
+#[cfg(test)]
+mod tables;
 #[cfg(test)]
 mod threads;
 #[cfg(test)]

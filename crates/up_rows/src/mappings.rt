@@ -7,7 +7,9 @@ mod points;
 mod texts;
 
 use crate::tool::Upstare;
-use row_calls::{Call, Faults, RowsDiffer, Shown, SourceRow, called, compare, judged, opened};
+use row_calls::{
+    Call, Faults, Row, RowsDiffer, Shown, Trial, called, compare, differing_rows, judged, opened,
+};
 use std::alloc::{AllocError, Global};
 
 const OLD: &str = r"
@@ -96,43 +98,53 @@ fn patched(alloc: Global, canonical: &str) -> Result<String, AllocError> {
 
 /// What a call comes to that has this answer: the line of the refusal, or the canonical text, which
 /// is `same` where it is the mapping itself and a newline behind it.
-fn wanted_of(alloc: Global, mapping: &str, answer: &str) -> Result<String, AllocError> {
-    if answer.starts_with("map m ") {
-        return format!(in alloc; "err: {answer}\nstatus 3\n");
+fn wanted_of(alloc: Global, row: &Row<'_>) -> Result<String, AllocError> {
+    if row.answer.starts_with("map m ") {
+        return format!(in alloc; "err: {}\nstatus 3\n", row.answer);
     }
-    if answer != "same" {
-        return patched(alloc, opened(answer));
+    if row.answer.is_empty() {
+        return patched(alloc, "");
     }
-    let canonical = format!(in alloc; "{mapping}\n")?;
-    patched(alloc, &canonical)
+    let canonical = if row.answer == "same" {
+        row.text
+    } else {
+        row.answer
+    };
+    let lines = format!(in alloc; "{canonical}\n")?;
+    patched(alloc, &lines)
 }
 
-fn differing_mappings(alloc: Global, rows: &[SourceRow<'_>]) -> Result<String, AllocError> {
-    let mut differing = String::new(alloc);
-    for (name, mapping, answer) in rows {
-        let wanted = wanted_of(alloc, mapping, answer)?;
-        let files = [("old.c", OLD), ("new.c", NEW), ("m", *mapping)];
-        let call = Call {
-            words: "patch old.c new.c m -o p",
-            files: &files,
-            faults: Faults::NONE,
-        };
-        let got = called(alloc, &Upstare, &call, Shown::All)?;
-        compare(&mut differing, name, &wanted, &got)?;
+/// What the call comes to that makes a patch by this mapping.
+fn made(alloc: Global, mapping: &str) -> Result<String, AllocError> {
+    let files = [("old.c", OLD), ("new.c", NEW), ("m", mapping)];
+    let call = Call {
+        words: "patch old.c new.c m -o p",
+        files: &files,
+        faults: Faults::NONE,
+    };
+    called(alloc, &Upstare, &call, Shown::All)
+}
+
+/// The patch by the mapping that is the text of a row.
+struct Mapped;
+
+impl Trial for Mapped {
+    fn put(&self, differing: &mut String, alloc: Global, row: &Row<'_>) -> Result<(), AllocError> {
+        let wanted = wanted_of(alloc, row)?;
+        compare(differing, row.name, &wanted, &made(alloc, row.text)?)
     }
-    Ok(differing)
 }
 
 #[test]
 fn mappings_are_canonical_or_refused(rt: HostRuntime) -> Result<(), RowsDiffer> {
-    for rows in [
+    for table in [
         matches::ROWS,
         data::ROWS,
         points::ROWS,
         expressions::ROWS,
         texts::ROWS,
     ] {
-        judged(differing_mappings(rt.alloc(), rows))?;
+        judged(differing_rows(rt.alloc(), &Mapped, table))?;
     }
     Ok(())
 }

@@ -2,18 +2,19 @@
 
 use crate::tool::Upstare;
 use row_calls::{
-    Repeated, RowsDiffer, Shown, SourceRow, called_on, compare, differing_sources, judged, text_of,
+    Repeated, RowsDiffer, Shown, called_on, compare, differing_sources, judged, text_of,
 };
 use std::alloc::{AllocError, Global};
 
 /// What a long run comes to over each source.
-#[rattlefmt::skip]
-const ROWS: &[SourceRow<'static>] = &[
-    ("a field of NULL", r"
+const ROWS: &str = r#"
+=== a field of NULL
 struct s { int x; };
 int main(void) { struct s *p; p->x = 1; return 0; }
-", "err: end trap null thread 0 steps 2 target - update none\nstatus 6\n"),
-    ("a field of a freed object", r"
+---
+err: end trap null thread 0 steps 2 target - update none
+status 6
+=== a field of a freed object
 struct s { int x; };
 int main(void) {
     struct s *p;
@@ -21,8 +22,10 @@ int main(void) {
     free(p);
     return p->x;
 }
-", "err: end trap freed thread 0 steps 4 target - update none\nstatus 6\n"),
-    ("freed twice", r"
+---
+err: end trap freed thread 0 steps 4 target - update none
+status 6
+=== freed twice
 struct s { int x; };
 int main(void) {
     struct s *p;
@@ -31,12 +34,16 @@ int main(void) {
     free(p);
     return 0;
 }
-", "err: end trap freed thread 0 steps 4 target - update none\nstatus 6\n"),
-    ("NULL can be freed", r"
+---
+err: end trap freed thread 0 steps 4 target - update none
+status 6
+=== NULL can be freed
 struct s { int x; };
 int main(void) { struct s *p; free(p); free(NULL); return 3; }
-", "err: end exit 3 steps 4 target - update none\nstatus 0\n"),
-    ("a field of another struct", r"
+---
+err: end exit 3 steps 4 target - update none
+status 0
+=== a field of another struct
 struct s { int x; };
 struct t { int y; };
 int main(void) {
@@ -46,16 +53,22 @@ int main(void) {
     q = v;
     return q->y;
 }
-", "err: end trap struct thread 0 steps 4 target - update none\nstatus 6\n"),
-    ("an index at the length", r"
+---
+err: end trap struct thread 0 steps 4 target - update none
+status 6
+=== an index at the length
 int a[3];
 int main(void) { int i = 3; a[2] = 7; a[i] = 1; return 0; }
-", "err: end trap bounds thread 0 steps 4 target - update none\nstatus 6\n"),
-    ("an index below 0", r"
+---
+err: end trap bounds thread 0 steps 4 target - update none
+status 6
+=== an index below 0
 int a[3];
 int main(void) { int i = -1; return a[i]; }
-", "err: end trap bounds thread 0 steps 3 target - update none\nstatus 6\n"),
-    ("one frame more than there may be", r#"
+---
+err: end trap bounds thread 0 steps 3 target - update none
+status 6
+=== one frame more than there may be
 int down(int k) {
     int r;
     if (k == 0) { return 0; }
@@ -63,8 +76,10 @@ int down(int k) {
     return r + 1;
 }
 int main(void) { printf("%d\n", down(9999)); return 0; }
-"#, "err: end trap frames thread 0 steps 29999 target - update none\nstatus 6\n"),
-    ("a list from which an object is freed", r#"
+---
+err: end trap frames thread 0 steps 29999 target - update none
+status 6
+=== a list from which an object is freed
 struct s { int x; struct s *next; };
 struct s *head;
 int main(void) {
@@ -79,12 +94,11 @@ int main(void) {
     head = head->next;
     return head->x;
 }
-"#, r"
+---
 2 0
 err: end trap freed thread 0 steps 28 target - update none
 status 6
-"),
-];
+"#;
 
 #[test]
 fn each_trap_of_memory_stops_a_program(rt: HostRuntime) -> Result<(), RowsDiffer> {
@@ -93,17 +107,18 @@ fn each_trap_of_memory_stops_a_program(rt: HostRuntime) -> Result<(), RowsDiffer
 }
 
 /// A run of some millions of steps, apart from the others for its time.
-#[rattlefmt::skip]
-const MANY_OBJECTS: &[SourceRow<'static>] = &[
-    ("one object more than there may be", r"
+const MANY_OBJECTS: &str = r"
+=== one object more than there may be
 struct s { int x; struct s *next; };
 int main(void) {
     struct s *p;
     while (1) { p = malloc(sizeof(struct s)); }
     return 0;
 }
-", "err: end trap objects thread 0 steps 3000003 target - update none\nstatus 6\n"),
-];
+---
+err: end trap objects thread 0 steps 3000003 target - update none
+status 6
+";
 
 #[test]
 fn a_program_makes_a_million_objects(rt: HostRuntime) -> Result<(), RowsDiffer> {

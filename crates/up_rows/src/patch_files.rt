@@ -2,12 +2,12 @@
 
 use crate::patches::C1;
 use crate::tool::Upstare;
-use row_calls::{Call, Faults, RowsDiffer, Shown, SourceRow, called, compare, judged};
+use row_calls::{Call, Faults, RowsDiffer, Shown, called, compare, judged};
 use std::alloc::{AllocError, Global};
 
 /// The bytes of each file, and where and why it is refused.
 #[rattlefmt::skip]
-const ROWS: &[SourceRow<'static>] = &[
+const ROWS: &[(&str, &str, &str)] = &[
     ("another first letter", "x", "at 0: bad head"),
     ("another version", "upstare-patch 2\n", "at 14: bad head"),
     ("a carriage return", "upstare-patch 1\r\n", "at 15: bad head"),

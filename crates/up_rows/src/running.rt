@@ -1,18 +1,17 @@
 //! Programs, and what they print and come to.
 
 use crate::tool::Upstare;
-use row_calls::{RowsDiffer, Shown, SourceRow, differing_sources, judged};
+use row_calls::{RowsDiffer, Shown, differing_sources, judged};
 
 /// What `run` comes to over each source.
-#[rattlefmt::skip]
-const ROWS: &[SourceRow<'static>] = &[
-    ("output and status",
-     r#"int main(void){ printf("hi\n"); return 3; }"#, r"
+const ROWS: &str = r#"
+=== output and status
+int main(void){ printf("hi\n"); return 3; }
+---
 hi
 err: end exit 3 steps 3 target - update none
 status 0
-"),
-    ("a call", r#"
+=== a call
 int n;
 int add(int a, int b) { n = n + 1; return a + b; }
 int main(void) {
@@ -22,12 +21,11 @@ int main(void) {
     printf("%d %d\n", r, n);
     return r;
 }
-"#, r"
+---
 4 1
 err: end exit 4 steps 11 target - update none
 status 0
-"),
-    ("a sum that wraps", r#"
+=== a sum that wraps
 int main(void) {
     int a;
     a = 2147483647;
@@ -35,43 +33,48 @@ int main(void) {
     if (a < 0) { printf("%d\n", a); }
     return a - 1;
 }
-"#, r"
+---
 -2147483648
 err: end exit 255 steps 6 target - update none
 status 0
-"),
-    ("continue in a for", r#"
+=== continue in a for
 int main(void) {
     int s = 0;
     for (int i = 0; i < 4; i++) { if (i == 2) continue; s += i; }
     printf("%d\n", s);
     return 0;
 }
-"#, r"
+---
 4
 err: end exit 0 steps 25 target - update none
 status 0
-"),
-    ("a program that never ends stops at the limit",
-     "int main(void) { while (1) { } return 0; }",
-     "err: end limit steps 1000000 target - update none\nstatus 8\n"),
-    ("a quotient that has no int", r#"
+=== a program that never ends stops at the limit
+int main(void) { while (1) { } return 0; }
+---
+err: end limit steps 1000000 target - update none
+status 8
+=== a quotient that has no int
 int main(void) { int a; a = 2147483647; a = a + 1; printf("%d\n", a); return a / -1; }
-"#, r"
+---
 -2147483648
 err: end trap divide thread 0 steps 5 target - update none
 status 6
-"),
-    ("a shift by 32",
-     "int main(void) { return 1 << 32; }",
-     "err: end trap shift thread 0 steps 2 target - update none\nstatus 6\n"),
-    ("a quotient by 0",
-     "int main(void) { return 1 / 0; }",
-     "err: end trap divide thread 0 steps 2 target - update none\nstatus 6\n"),
-    ("a remainder by 0",
-     "int main(void) { return 1 % 0; }",
-     "err: end trap divide thread 0 steps 2 target - update none\nstatus 6\n"),
-];
+=== a shift by 32
+int main(void) { return 1 << 32; }
+---
+err: end trap shift thread 0 steps 2 target - update none
+status 6
+=== a quotient by 0
+int main(void) { return 1 / 0; }
+---
+err: end trap divide thread 0 steps 2 target - update none
+status 6
+=== a remainder by 0
+int main(void) { return 1 % 0; }
+---
+err: end trap divide thread 0 steps 2 target - update none
+status 6
+"#;
 
 #[test]
 fn programs_run_to_their_end(rt: HostRuntime) -> Result<(), RowsDiffer> {

@@ -7,7 +7,7 @@ use crate::threads::sources::{
 };
 use crate::tool::Upstare;
 use row_calls::{CallRow, RowsDiffer, differing_calls, judged};
-pub use sources::{FOREVER, PAIR};
+pub use sources::{FIVE, FOREVER, PAIR};
 
 /// What each run comes to.
 #[rattlefmt::skip]

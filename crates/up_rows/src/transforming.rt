@@ -1,13 +1,13 @@
 //! What programs are transformed to.
 
 use crate::tool::Upstare;
-use row_calls::{RowsDiffer, Shown, SourceRow, differing_sources, judged};
+use row_calls::{RowsDiffer, Shown, differing_sources, judged};
 
 /// What `transform` comes to over each source.
-#[rattlefmt::skip]
-const ROWS: &[SourceRow<'static>] = &[
-    ("a program without slots",
-     r#"int main(void) { printf("hi\n"); return 3; }"#, r#"
+const ROWS: &str = r#"
+=== a program without slots
+int main(void) { printf("hi\n"); return 3; }
+---
 int main(void) {
   UP_RESTORE(0);
   UP_AT(0);
@@ -16,8 +16,7 @@ int main(void) {
   return 0;
 }
 status 0
-"#),
-    ("structs, globals and mutexes stand in this order", r"
+=== structs, globals and mutexes stand in this order
 pthread_mutex_t lock;
 int a[3];
 struct item { int value; struct item *next; };
@@ -26,7 +25,7 @@ int n = 5;
 int m = -3;
 int zero = 0;
 int main(void) { return 0; }
-", r"
+---
 struct item { int value; struct item *next; };
 int a[3];
 struct item *head;
@@ -41,11 +40,10 @@ int main(void) {
   return 0;
 }
 status 0
-"),
-    ("calls are followed by their mark, and made again behind the body", r"
+=== calls are followed by their mark, and made again behind the body
 int f(int a, int b) { return a - b; }
 int main(void) { int r; r = f(1, 2) + f(3, 4); f(r, 0); return r; }
-", r"
+---
 int f(int a, int b) {
   UP_RESTORE(2);
   UP_AT(0);
@@ -72,8 +70,7 @@ int main(void) {
   UP_REBUILD(4): f(0, 0);
 }
 status 0
-"),
-    ("loops are numbered by their ends, and continue goes to its own", r"
+=== loops are numbered by their ends, and continue goes to its own
 int main(void) {
     int i;
     for (i = 0; i < 3; i++) {
@@ -82,7 +79,7 @@ int main(void) {
     }
     return 0;
 }
-", r"
+---
 int main(void) {
   int i;
   UP_RESTORE(1);
@@ -110,8 +107,7 @@ int main(void) {
   return 0;
 }
 status 0
-"),
-    ("an empty else is none", r"
+=== an empty else is none
 int n;
 int main(void) {
     if (n) n = 1; else n = 2;
@@ -119,7 +115,7 @@ int main(void) {
     if (n) { } else { n = 3; }
     return 0;
 }
-", r"
+---
 int n;
 int main(void) {
   UP_RESTORE(0);
@@ -139,8 +135,7 @@ int main(void) {
   return 0;
 }
 status 0
-"),
-    ("locks and joins have their mark before them", r"
+=== locks and joins have their mark before them
 pthread_mutex_t m;
 int n;
 void *work(void *a) {
@@ -155,7 +150,7 @@ int main(void) {
     pthread_join(t, NULL);
     return n;
 }
-", r"
+---
 int n;
 pthread_mutex_t m;
 void *work(void *a) {
@@ -179,9 +174,9 @@ int main(void) {
   return 0;
 }
 status 0
-"),
-    ("the escapes of a string",
-     r#"int main(void) { printf("a\tb \"c\" \\ d %d %%\n", 7); return 0; }"#, r#"
+=== the escapes of a string
+int main(void) { printf("a\tb \"c\" \\ d %d %%\n", 7); return 0; }
+---
 int main(void) {
   UP_RESTORE(0);
   UP_AT(0);
@@ -190,8 +185,7 @@ int main(void) {
   return 0;
 }
 status 0
-"#),
-    ("objects, the input, and signs that would touch", r"
+=== objects, the input, and signs that would touch
 struct s { int v; struct s *next; };
 int main(void) {
     struct s *p;
@@ -202,7 +196,7 @@ int main(void) {
     free(p);
     return 0;
 }
-", r"
+---
 struct s { int v; struct s *next; };
 int main(void) {
   struct s *p;
@@ -219,9 +213,9 @@ int main(void) {
   return 0;
 }
 status 0
-"),
-    ("a second slot of one name has a number",
-     "int main(void) { int i; i = 0; { int i; i = 1; } return i; }", r"
+=== a second slot of one name has a number
+int main(void) { int i; i = 0; { int i; i = 1; } return i; }
+---
 int main(void) {
   int i;
   int i.2;
@@ -233,13 +227,12 @@ int main(void) {
   return 0;
 }
 status 0
-"),
-    ("a call in a test stands in its loop", r"
+=== a call in a test stands in its loop
 int n;
 void tick(void) { n += 2; }
 int more(void) { return n < 4; }
 int main(void) { while (more()) tick(); return 0; }
-", r"
+---
 int n;
 void tick(void) {
   UP_RESTORE(0);
@@ -272,8 +265,7 @@ int main(void) {
   UP_REBUILD(3): tick();
 }
 status 0
-"),
-    ("every statement of two functions", r#"
+=== every statement of two functions
 struct node { int value; struct node *next; };
 int table[4];
 int limit = -3;
@@ -304,7 +296,7 @@ int sum(int a, int b) {
     return a;
 }
 int main(void) { return sum(1, 2); }
-"#, r#"
+---
 struct node { int value; struct node *next; };
 int table[4];
 int limit = -3;
@@ -374,11 +366,12 @@ int main(void) {
   UP_REBUILD(1): sum(0, 0);
 }
 status 0
-"#),
-    ("what is refused is not transformed",
-     "int main(void) { return x; }",
-     "err: source a.c at 24: unknown x\nstatus 2\n"),
-];
+=== what is refused is not transformed
+int main(void) { return x; }
+---
+err: source a.c at 24: unknown x
+status 2
+"#;
 
 #[test]
 fn programs_are_transformed(rt: HostRuntime) -> Result<(), RowsDiffer> {

@@ -4,7 +4,11 @@ mod sources;
 
 use crate::queue::sources::{NEW_QUEUE, QUEUE, WEIGHTS};
 use crate::tool::Upstare;
-use row_calls::{Programs, RowsDiffer, UpdateRow, differing_updates, judged};
+use row_calls::{
+    Programs, Row, RowsDiffer, Shown, Trial, UpdateRow, called_on, compare, differing_rows,
+    differing_updates, judged,
+};
+use std::alloc::{AllocError, Global};
 
 const PROGRAMS: Programs<'static> = Programs {
     old: QUEUE,
@@ -146,4 +150,48 @@ status 0
 #[test]
 fn the_queue_does_all_jobs(rt: HostRuntime) -> Result<(), RowsDiffer> {
     judged(differing_updates(rt.alloc(), &Upstare, ROWS))
+}
+
+/// The words of a call over the old program alone, and what it comes to: the sum is the same
+/// whatever thread takes which job.
+const ALONE: &str = r"
+=== it is well typed
+check a.c
+---
+ok functions 5 structs 1 globals 4 mutexes 2
+status 0
+=== in turns
+run a.c
+---
+jobs 20 total 2100
+err: end exit 0 steps 1543 target - update none
+status 0
+=== drawn by seed 1
+run a.c --seed 1
+---
+jobs 20 total 2100
+err: end exit 0 steps 1543 target - update none
+status 0
+=== drawn by seed 2026
+run a.c --seed 2026
+---
+jobs 20 total 2100
+err: end exit 0 steps 1543 target - update none
+status 0
+";
+
+/// The call over the old program with the words that are the text of a row.
+struct Queued;
+
+impl Trial for Queued {
+    fn put(&self, differing: &mut String, alloc: Global, row: &Row<'_>) -> Result<(), AllocError> {
+        let wanted = format!(in alloc; "{}\n", row.answer)?;
+        let got = called_on(alloc, &Upstare, row.text, QUEUE, Shown::All)?;
+        compare(differing, row.name, &wanted, &got)
+    }
+}
+
+#[test]
+fn the_queue_does_all_jobs_without_an_update(rt: HostRuntime) -> Result<(), RowsDiffer> {
+    judged(differing_rows(rt.alloc(), &Queued, ALONE))
 }

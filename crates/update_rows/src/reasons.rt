@@ -8,7 +8,9 @@ mod unmapped;
 
 use crate::reasons::sources::{NEW, OLD};
 use crate::tool::Upstare;
-use row_calls::{Programs, RowsDiffer, SourceRow, UpdateRow, differing_updates, judged};
+use row_calls::{
+    Programs, Row, RowsDiffer, Trial, UpdateRow, differing_rows, differing_updates, judged,
+};
 use std::alloc::{AllocError, Global};
 
 /// The event of the outcome, and what the run comes to: it is made, or refused for a reason, after
@@ -30,33 +32,35 @@ fn wanted_of(alloc: Global, answer: &str) -> Result<(String, String), AllocError
     }
 }
 
-fn differing_reason(alloc: Global, row: &SourceRow<'_>) -> Result<String, AllocError> {
-    let (name, map, answer) = row;
-    let (event, wanted) = wanted_of(alloc, answer)?;
-    let events = format!(in alloc;
-        "45 steps, request, park 1, step 0, park 0, {event}, resume 0, resume 1, step 1"
-    )?;
-    let row = UpdateRow {
-        name,
-        programs: Programs {
-            old: OLD,
-            new: NEW,
-            map,
-        },
-        words: "--at 45",
-        plan: "",
-        wanted: &wanted,
-        events: &events,
-    };
-    differing_updates(alloc, &Upstare, &[row])
+/// The update by the mapping that is the text of a row.
+struct Refused;
+
+impl Trial for Refused {
+    fn put(&self, differing: &mut String, alloc: Global, row: &Row<'_>) -> Result<(), AllocError> {
+        let (event, wanted) = wanted_of(alloc, row.answer)?;
+        let events = format!(in alloc;
+            "45 steps, request, park 1, step 0, park 0, {event}, resume 0, resume 1, step 1"
+        )?;
+        let row = UpdateRow {
+            name: row.name,
+            programs: Programs {
+                old: OLD,
+                new: NEW,
+                map: row.text,
+            },
+            words: "--at 45",
+            plan: "",
+            wanted: &wanted,
+            events: &events,
+        };
+        differing.push_str(&differing_updates(alloc, &Upstare, &[row])?)
+    }
 }
 
 #[test]
 fn the_first_reason_is_told(rt: HostRuntime) -> Result<(), RowsDiffer> {
-    for rows in [each::ROWS, pairs::ROWS, traps::ROWS] {
-        for row in rows {
-            judged(differing_reason(rt.alloc(), row))?;
-        }
+    for table in [each::ROWS, pairs::ROWS, traps::ROWS] {
+        judged(differing_rows(rt.alloc(), &Refused, table))?;
     }
     Ok(())
 }

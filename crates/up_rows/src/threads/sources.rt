@@ -93,3 +93,17 @@ int main(void) {
     return 0;
 }
 ";
+
+/// Five threads that never end, of which the main one starts the others.
+pub const FIVE: &str = r"
+void *w(void *a) { while (1) { } return NULL; }
+int main(void) {
+    pthread_t t;
+    pthread_create(&t, NULL, w, NULL);
+    pthread_create(&t, NULL, w, NULL);
+    pthread_create(&t, NULL, w, NULL);
+    pthread_create(&t, NULL, w, NULL);
+    while (1) { }
+    return 0;
+}
+";
