@@ -1,3 +1,5 @@
 pub mod Playing
 pub mod Leaving
 pub mod Reading
+pub mod Rereading
+pub mod Held
