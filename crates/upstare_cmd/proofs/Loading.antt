@@ -13,18 +13,19 @@ use Rattle.c_tree.specs.declared.run.Picker.TheVariants as picker
 use Rattle.load_texts.specs.Texts as load
 use Rattle.patch_maker.specs.Made.{IsPatch}
 use Rattle.world_core.specs.History.{History, IsRun, core, over}
-use Rattle.upstare_cmd.specs.Answer as meant
+use Rattle.answers.specs.Answer as meant
 use Rattle.upstare_cmd.specs.Arming.{armed, begun_with}
 use Rattle.upstare_cmd.specs.Asked.{load_names}
 use Rattle.upstare_cmd.specs.Meaning.{LoadMeans, LoadTells, Loads, Means, entries_of, load_patch, load_settings, settings}
 use Rattle.upstare_cmd.specs.Parts.{OfEntries, OfTexts}
 use Rattle.reports.specs.Line as line
-use Rattle.upstare_cmd.specs.Status.{code, status_of}
+use Rattle.answers.specs.Status.{code, status_of}
 use Rattle.upstare_cmd.specs.Update.{update_words}
-use Rattle.upstare_cmd.specs.declared.status.Status.{Status}
+use Rattle.answers.specs.declared.status.Status.{Status}
 use Rattle.c_tree.specs.declared.run.End.{End}
-use Rattle.upstare_cmd.specs.Views as view
-use Rattle.upstare_cmd.specs.declared.answer.Answer.{Answer}
+use Rattle.answers.specs.Views as view
+use Rattle.upstare_cmd.specs.Views as inner
+use Rattle.answers.specs.declared.answer.Answer.{Answer}
 use Rattle.upstare_cmd.specs.declared.judged.Judged.TheVariants as judged
 use Rattle.upstare_cmd.proofs.Judging.{of_patch, of_refused}
 use Rattle.upstare_cmd.proofs.Meant.{texts_mean}
@@ -81,11 +82,11 @@ loaded n x a p q m loads is =
 
 -- What a load means, where its texts have a patch.
 pub of_load : (n : ℕ) (old new text : List ℕ) (x : made.Patch) (r : Result Answer AllocError) → old ≡ load.old_source n → new ≡ load.new_source n → text ≡ load.mapping n
-    → view.IsOfTexts load_names old new text (judged.Patch x) → IfOk r (λ a. Loads n (load_settings n x) (view.answer a)) → IfOk r (λ a. LoadMeans n (view.answer a))
+    → inner.IsOfTexts load_names old new text (judged.Patch x) → IfOk r (λ a. Loads n (load_settings n x) (view.answer a)) → IfOk r (λ a. LoadMeans n (view.answer a))
 of_load n old new text x (Ok y) a b c of loads =
-    let texts : view.IsOfTexts load_names (load.old_source n) (load.new_source n) (load.mapping n) (judged.Patch x) =
-    subst (λ s. view.IsOfTexts load_names s (load.new_source n) (load.mapping n) (judged.Patch x)) a
-    (subst (λ t. view.IsOfTexts load_names old t (load.mapping n) (judged.Patch x)) b (subst (λ t. view.IsOfTexts load_names old new t (judged.Patch x)) c of)) in
+    let texts : inner.IsOfTexts load_names (load.old_source n) (load.new_source n) (load.mapping n) (judged.Patch x) =
+    subst (λ s. inner.IsOfTexts load_names s (load.new_source n) (load.mapping n) (judged.Patch x)) a
+    (subst (λ t. inner.IsOfTexts load_names old t (load.mapping n) (judged.Patch x)) b (subst (λ t. inner.IsOfTexts load_names old new t (judged.Patch x)) c of)) in
     texts_mean load_names (load.old_source n) (load.new_source n) (load.mapping n) (Runs n) (view.answer y)
     (of_patch load_names (load.old_source n) (load.new_source n) (load.mapping n) x
     (λ p q r. OfEntries load_names.map (λ entries. Runs n p q entries (view.answer y)) r (view.answer y)) (view.answer y) texts
@@ -94,9 +95,9 @@ of_load n old new text x (Err e) a b c of loads = tt
 
 -- What a load means, where one of its texts is refused.
 pub of_refused_load : (n : ℕ) (old new text : List ℕ) (y : meant.Answer) → old ≡ load.old_source n → new ≡ load.new_source n → text ≡ load.mapping n
-    → OfTexts load_names old new text (λ p q r. view.TurnsDownEntries load_names.map r y) y → LoadMeans n y
+    → OfTexts load_names old new text (λ p q r. inner.TurnsDownEntries load_names.map r y) y → LoadMeans n y
 of_refused_load n old new text y a b c down =
-    let Down : List ℕ → List ℕ → List ℕ → Type 0 = λ s t u. OfTexts load_names s t u (λ p q r. view.TurnsDownEntries load_names.map r y) y in
+    let Down : List ℕ → List ℕ → List ℕ → Type 0 = λ s t u. OfTexts load_names s t u (λ p q r. inner.TurnsDownEntries load_names.map r y) y in
     texts_mean load_names (load.old_source n) (load.new_source n) (load.mapping n) (Runs n) y
     (of_refused load_names (load.old_source n) (load.new_source n) (load.mapping n) (λ p q r. OfEntries load_names.map (λ entries. Runs n p q entries y) r y) y (λ p q why is. is)
     (subst (λ s. Down s (load.new_source n) (load.mapping n)) a (subst (λ t. Down old t (load.mapping n)) b (subst (λ u. Down old new u) c down))))

@@ -15,14 +15,15 @@ use Rattle.c_grammar.specs.Mapping.{IsMappingOf}
 use Rattle.c_source.specs.Source.{IsAccepted}
 use Rattle.history.specs.Listing.{IsListing}
 use Rattle.command_line.specs.Command.{Run, RunWords, UpdateWords}
-use Rattle.upstare_cmd.specs.Answer.{Answer}
-use Rattle.upstare_cmd.specs.Asked.{TextNames, input_file, named, run_files, schedule_file, update_files}
+use Rattle.answers.specs.Answer.{Answer}
+use Rattle.upstare_cmd.specs.Asked.{TextNames, named, run_files, update_files}
+use Rattle.answers.specs.Wanted.{input_file, schedule_file}
 use Rattle.upstare_cmd.specs.Meaning.{AreSettings, AreTextsOf, IsArmedWith, IsGiven, Means, RunMeans, RunTexts, SourceMeans, TextsMean, entries_of, settings, not_accepted, printed, old_refused, new_refused, mapping_refused, entry_unsound, patched, source_refused, patch_refused, patch_differs, schedule_refused, ended}
 use Rattle.upstare_cmd.specs.Parts.{ArmedMeans, Listed, OfEntries, OfSource, OfTexts, Plans, ProgramMeans}
 use Rattle.upstare_cmd.specs.Replies.{prints}
-use Rattle.upstare_cmd.specs.Views as view
-use Rattle.upstare_cmd.specs.Views.{Fit}
-use Rattle.upstare_cmd.specs.declared.answer.Answer as code
+use Rattle.answers.specs.Views as view
+use Rattle.answers.specs.Views.{Fit}
+use Rattle.answers.specs.declared.answer.Answer as code
 
 -- of one source
 source_means : (name source : List ℕ) (text : Lifted → List ℕ) (a : Answer) → OfSource name source (λ p. a ≡ prints (text p)) a → SourceMeans name source text a

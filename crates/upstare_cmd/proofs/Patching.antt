@@ -10,14 +10,15 @@ use Rattle.c_tree.specs.Canonical.{canonical_text}
 use Rattle.patch_file.specs.Whole.{file_of}
 use Rattle.patch_form.specs.Framing.{framed}
 use Rattle.patch_maker.specs.Made.{IsPatch}
-use Rattle.upstare_cmd.specs.Answer.{Answer}
+use Rattle.answers.specs.Answer.{Answer}
 use Rattle.upstare_cmd.specs.Asked.{names_of}
 use Rattle.upstare_cmd.specs.Meaning.{Means, PatchMeans, entries_of}
 use Rattle.upstare_cmd.specs.Parts.{OfEntries, OfTexts}
 use Rattle.upstare_cmd.specs.Replies.{put_patch}
-use Rattle.upstare_cmd.specs.declared.answer.Answer as code
+use Rattle.answers.specs.declared.answer.Answer as code
 use Rattle.upstare_cmd.specs.declared.judged.Judged.TheVariants as judged
-use Rattle.upstare_cmd.specs.Views as view
+use Rattle.answers.specs.Views as view
+use Rattle.upstare_cmd.specs.Views as inner
 use Rattle.upstare_cmd.proofs.Judging.{of_patch, of_refused}
 use Rattle.upstare_cmd.proofs.Meant.{texts_mean}
 use Rattle.command_line.specs.Command.{Patch as ToPatch, PatchWords}
@@ -40,7 +41,7 @@ puts words a b x p q m y is done =
     subst (λ r. OfEntries words.map (λ entries. Puts words a b p q entries y) r y) (sym is.entries.are) (done ∙ ap (put_patch words.output) (file_is a b p q m x is))
 
 -- What a patch means, where the three texts have one.
-pub patch_put : (words : PatchWords) (a b text : List ℕ) (x : made.Patch) (r : Result code.Answer AllocError) → view.IsOfTexts (names_of words) a b text (judged.Patch x)
+pub patch_put : (words : PatchWords) (a b text : List ℕ) (x : made.Patch) (r : Result code.Answer AllocError) → inner.IsOfTexts (names_of words) a b text (judged.Patch x)
     → IfOk r (λ y. view.answer y ≡ put_patch words.output (file_of x)) → IfOk r (λ y. PatchMeans words a b text (view.answer y))
 patch_put words a b text x (Ok y) of done =
     texts_mean (names_of words) a b text (Puts words a b) (view.answer y)
@@ -49,7 +50,7 @@ patch_put words a b text x (Ok y) of done =
 patch_put words a b text x (Err e) of done = tt
 
 -- What a patch means, where one of the three texts is refused.
-pub patch_refused : (words : PatchWords) (a b text : List ℕ) (y : Answer) → OfTexts (names_of words) a b text (λ p q r. view.TurnsDownEntries words.map r y) y → PatchMeans words a b text y
+pub patch_refused : (words : PatchWords) (a b text : List ℕ) (y : Answer) → OfTexts (names_of words) a b text (λ p q r. inner.TurnsDownEntries words.map r y) y → PatchMeans words a b text y
 patch_refused words a b text y down =
     texts_mean (names_of words) a b text (Puts words a b) y
     (of_refused (names_of words) a b text (λ p q r. OfEntries words.map (λ entries. Puts words a b p q entries y) r y) y (λ p q why is. is) down)

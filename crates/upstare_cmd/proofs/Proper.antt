@@ -12,14 +12,17 @@ use Rattle.c_tree.specs.Canonical.{canonical_text}
 use Rattle.load_texts.specs.Texts as load
 use Rattle.patch_form.specs.Framing.{framed}
 use Rattle.command_line.specs.Command.{Command, Usage, Check, Points, Transform, Run, RunWords, UpdateWords, Patch, PatchWords, Load}
-use Rattle.upstare_cmd.specs.Answer.{Answer, Piece, ToOut, ToFile}
-use Rattle.upstare_cmd.specs.Asked.{TextNames, Wanted, input_file, load_names, map_file, named, names_of, outputs, patch_file, run_files, schedule_file, source_file, update_files, wanted}
-use Rattle.upstare_cmd.specs.Causes.{IsProper, WritesOnly, is_of_texts, is_refusal}
+use Rattle.answers.specs.Answer.{Answer, Piece, ToOut, ToFile}
+use Rattle.upstare_cmd.specs.Asked.{TextNames, load_names, named, names_of, outputs, run_files, update_files, wanted}
+use Rattle.answers.specs.Wanted.{Wanted, input_file, map_file, patch_file, schedule_file, source_file}
+use Rattle.upstare_cmd.specs.Causes.{IsProper, is_of_texts, is_refusal}
+use Rattle.answers.specs.Writes.{WritesOnly}
 use Rattle.upstare_cmd.specs.Meaning.{Loads, Means, RunMeans, RunTexts, SourceMeans, Tells, TextsMean, load_patch, load_settings, not_accepted, printed, old_refused, new_refused, mapping_refused, entry_unsound, patched, source_refused, patch_refused, patch_differs, schedule_refused, ended}
-use Rattle.upstare_cmd.specs.Replies.{kept, loaded, patch_too_long, patch_written, prints, put_patch, ran, says, too_long}
-use Rattle.upstare_cmd.specs.Status.{code}
-use Rattle.upstare_cmd.specs.declared.status.Status.{Status}
-use Rattle.upstare_cmd.specs.declared.status.Status.TheVariants as st
+use Rattle.upstare_cmd.specs.Replies.{kept, loaded, patch_written, prints, put_patch, ran}
+use Rattle.answers.specs.Refusals.{patch_too_long, says, too_long}
+use Rattle.answers.specs.Status.{code}
+use Rattle.answers.specs.declared.status.Status.{Status}
+use Rattle.answers.specs.declared.status.Status.TheVariants as st
 
 -- a refusal's line alone
 refusal : (c : Command) (line : List ℕ) (s : Status) → (code s ≡ 1 → c ≡ Usage) → (code s ≡ 4 → ⊥) → (code s ≡ 5 → ⊥) → (code s ≡ 9 → ⊥) → IsProper c (says line s)

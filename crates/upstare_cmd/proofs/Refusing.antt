@@ -11,33 +11,35 @@ use Rattle.map_lang.specs.declared.refused.MapRefused.TheVariants as map_refused
 use Rattle.c_source.specs.Refusal as source
 use Rattle.c_source.specs.declared.refused.SourceRefused.{SourceRefused}
 use Rattle.c_source.specs.declared.refused.SourceRefused.TheVariants as refused
-use Rattle.upstare_cmd.specs.Answer.{Answer}
-use Rattle.upstare_cmd.specs.Asked.{Wanted, wanted}
+use Rattle.answers.specs.Answer.{Answer}
+use Rattle.answers.specs.Wanted.{Wanted}
+use Rattle.upstare_cmd.specs.Asked.{wanted}
 use Rattle.upstare_cmd.specs.Carries.{Intends, means}
 use Rattle.upstare_cmd.specs.Meaning.{Means}
 use Rattle.upstare_cmd.specs.Parts.{OfMapping, OfSource}
-use Rattle.upstare_cmd.specs.Reading.{AreRead}
+use Rattle.answers.specs.Reading.{AreRead}
 use Rattle.command_line.specs.Command.{Command}
-use Rattle.upstare_cmd.specs.declared.answer.Answer as code
-use Rattle.upstare_cmd.specs.Views as view
+use Rattle.answers.specs.declared.answer.Answer as code
+use Rattle.answers.specs.Views as view
+use Rattle.upstare_cmd.specs.Views as inner
 
 -- The line of a refusal is what is meant where a source is judged.
-pub judged : (name bytes : List ℕ) (Taken : Answer → Lifted → Type 0) (why : SourceRefused) (a : Answer) → source.IsRefusal bytes why → view.TurnsDown name why a → OfSource name bytes (Taken a) a
+pub judged : (name bytes : List ℕ) (Taken : Answer → Lifted → Type 0) (why : SourceRefused) (a : Answer) → source.IsRefusal bytes why → inner.TurnsDown name why a → OfSource name bytes (Taken a) a
 judged name bytes Taken (refused.At at why) a is down = inr (at, why, is, down)
 judged name bytes Taken (refused.Memory e) a is down = absurd down
 
 pub turned_down : (name bytes : List ℕ) (Taken : Answer → Lifted → Type 0) (why : SourceRefused) (r : Result code.Answer AllocError) → source.IsRefusal bytes why
-    → IfOk r (λ a. view.TurnsDown name why (view.answer a)) → IfOk r (λ a. OfSource name bytes (Taken (view.answer a)) (view.answer a))
+    → IfOk r (λ a. inner.TurnsDown name why (view.answer a)) → IfOk r (λ a. OfSource name bytes (Taken (view.answer a)) (view.answer a))
 turned_down name bytes Taken why (Ok a) is down = judged name bytes Taken why (view.answer a) is down
 turned_down name bytes Taken why (Err e) is down = down
 
 -- The line of a refusal is what is meant where a text is judged as a mapping.
-pub map_judged : (name bytes : List ℕ) (Taken : Answer → Mapping → Type 0) (why : MapRefused) (a : Answer) → mapping.IsRefusal bytes why → view.TurnsDownMap name why a → OfMapping name bytes (Taken a) a
+pub map_judged : (name bytes : List ℕ) (Taken : Answer → Mapping → Type 0) (why : MapRefused) (a : Answer) → mapping.IsRefusal bytes why → inner.TurnsDownMap name why a → OfMapping name bytes (Taken a) a
 map_judged name bytes Taken (map_refused.At at why) a is down = inr (at, why, is, down)
 map_judged name bytes Taken (map_refused.Memory e) a is down = absurd down
 
 pub map_turned_down : (name bytes : List ℕ) (Taken : Answer → Mapping → Type 0) (why : MapRefused) (r : Result code.Answer AllocError) → mapping.IsRefusal bytes why
-    → IfOk r (λ a. view.TurnsDownMap name why (view.answer a)) → IfOk r (λ a. OfMapping name bytes (Taken (view.answer a)) (view.answer a))
+    → IfOk r (λ a. inner.TurnsDownMap name why (view.answer a)) → IfOk r (λ a. OfMapping name bytes (Taken (view.answer a)) (view.answer a))
 map_turned_down name bytes Taken why (Ok a) is down = map_judged name bytes Taken why (view.answer a) is down
 map_turned_down name bytes Taken why (Err e) is down = down
 

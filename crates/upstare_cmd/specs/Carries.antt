@@ -2,10 +2,10 @@
 use Rattle.std.specs.Prelude.{◌≡◌, ℕ, List}
 use Rattle.up_base.specs.Outside.{Shelf}
 use Rattle.command_line.specs.Command.{Command}
-use Rattle.upstare_cmd.specs.Answer.{World, Answer, Plays, GaveUp}
+use Rattle.answers.specs.Answer.{World, Answer, Plays, GaveUp}
 use Rattle.upstare_cmd.specs.Asked.{wanted}
 use Rattle.upstare_cmd.specs.Meaning.{Means}
-use Rattle.upstare_cmd.specs.Reading.{AreRead, Begins, Stops}
+use Rattle.answers.specs.Reading.{AreRead, Begins, Stops}
 
 -- A file ends the call; or all were read, and the command means this.
 pub data Intends (c : Command) (before now : Shelf) (a : Answer) : Type 0 where

@@ -29,14 +29,15 @@ use Rattle.patch_file.specs.Refused.{IsFileRefused, IsFirstDifference}
 use Rattle.patch_file.specs.Whole.{IsFileOf}
 use Rattle.patch_form.specs.Framing.{framed}
 use Rattle.world_core.specs.History.{core}
-use Rattle.upstare_cmd.specs.Answer.{Answer}
+use Rattle.answers.specs.Answer.{Answer}
 use Rattle.upstare_cmd.specs.Asked.{TextNames, load_names, names_of}
+use Rattle.answers.specs.Refusals as refusal
 use Rattle.upstare_cmd.specs.Replies as reply
 use Rattle.upstare_cmd.specs.Update.{update_words}
 
 -- What a command means that prints a text of one source's program.
 pub data SourceMeans (name source : List ℕ) (text : Lifted → List ℕ) (a : Answer) : Type 0 where
-  not_accepted : (at : ℕ) (why : SourceCause) → IsRefused source at why → a ≡ reply.refused name at why → SourceMeans name source text a
+  not_accepted : (at : ℕ) (why : SourceCause) → IsRefused source at why → a ≡ refusal.refused name at why → SourceMeans name source text a
   printed : (p : Lifted) → IsAccepted source p → a ≡ reply.prints (text p) → SourceMeans name source text a
 
 -- what the entries of a mapping between two programs come to
@@ -45,10 +46,10 @@ entries_of p q m = canonical_entries p q (map (λ x. x.it) m.entries)
 
 -- What a command means that makes a patch of an old source, a new one and a mapping, and then says this of it.
 pub data TextsMean (names : TextNames) (old new mapping : List ℕ) (Says : Lifted → Lifted → List LEntry → Answer → Type 0) (a : Answer) : Type 0 where
-  old_refused : (at : ℕ) (why : SourceCause) → IsRefused old at why → a ≡ reply.refused names.old at why → TextsMean names old new mapping Says a
-  new_refused : (p : Lifted) (at : ℕ) (why : SourceCause) → IsAccepted old p → IsRefused new at why → a ≡ reply.refused names.new at why
+  old_refused : (at : ℕ) (why : SourceCause) → IsRefused old at why → a ≡ refusal.refused names.old at why → TextsMean names old new mapping Says a
+  new_refused : (p : Lifted) (at : ℕ) (why : SourceCause) → IsAccepted old p → IsRefused new at why → a ≡ refusal.refused names.new at why
       → TextsMean names old new mapping Says a
-  mapping_refused : (p q : Lifted) (at : ℕ) (why : ReadCause) → IsAccepted old p → IsAccepted new q → IsMapFault mapping at why → a ≡ reply.map_refused names.map at why
+  mapping_refused : (p q : Lifted) (at : ℕ) (why : ReadCause) → IsAccepted old p → IsAccepted new q → IsMapFault mapping at why → a ≡ refusal.map_refused names.map at why
       → TextsMean names old new mapping Says a
   entry_unsound : (p q : Lifted) (m : Mapping) (why : Unsound) → IsAccepted old p → IsAccepted new q → IsMappingOf mapping m → entries_of p q m ≡ Err why
       → a ≡ reply.map_unsound names.map why.entry why.cause → TextsMean names old new mapping Says a
@@ -131,7 +132,7 @@ Follows words (Some text) k events = (clean : Bool) × IsListing text events cle
 
 -- What a run means, by the texts of its files.
 pub data RunMeans (words : RunWords) (t : RunTexts) (a : Answer) : Type 0 where
-  source_refused : (at : ℕ) (why : SourceCause) → IsRefused t.source at why → a ≡ reply.refused words.file at why → RunMeans words t a
+  source_refused : (at : ℕ) (why : SourceCause) → IsRefused t.source at why → a ≡ refusal.refused words.file at why → RunMeans words t a
   patch_refused : (p : Lifted) (update : UpdateWords) (bytes : List ℕ) (at : ℕ) (why : FileCause) → IsAccepted t.source p → words.update ≡ Some update
       → t.patch ≡ Some bytes → IsFileRefused bytes at why → a ≡ reply.patch_refused update.patch at why → RunMeans words t a
   patch_differs : (p : Lifted) (update : UpdateWords) (bytes : List ℕ) (x : made.Patch) (at : ℕ) → IsAccepted t.source p → words.update ≡ Some update

@@ -18,10 +18,11 @@ use Rattle.command_line.specs.Command.{RunWords, UpdateWords}
 use Rattle.history.specs.Listing.{IsListing}
 use Rattle.patch_file.specs.Refused.{IsFileRefused, IsFirstDifference}
 use Rattle.patch_file.specs.Whole.{IsFileOf}
-use Rattle.upstare_cmd.specs.Answer.{Answer}
+use Rattle.answers.specs.Answer.{Answer}
 use Rattle.upstare_cmd.specs.Asked.{TextNames, load_names}
 use Rattle.upstare_cmd.specs.Meaning.{Loads, Tells, entries_of, load_patch, load_settings, picker_of, settings, was_short}
-use Rattle.upstare_cmd.specs.Replies.{map_refused, map_unsound, patch_differs, patch_refused, refused, schedule_refused}
+use Rattle.answers.specs.Refusals.{map_refused, refused}
+use Rattle.upstare_cmd.specs.Replies.{map_unsound, patch_differs, patch_refused, schedule_refused}
 
 -- What is meant where a source is judged: this, of its program, or the line of its refusal.
 abbrev pub OfSource : List ℕ → List ℕ → (Lifted → Type 0) → Answer → Type 0

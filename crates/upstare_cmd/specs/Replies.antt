@@ -1,22 +1,18 @@
 -- The answers that the commands give.
-use Rattle.std.specs.Prelude.{ℕ, nat_le, if◌then◌else◌, List, [], ◌∷◌, length, Option, Some, None, option_to_list}
-use Rattle.c_tree.specs.declared.cause.ReadCause.{ReadCause}
+use Rattle.std.specs.Prelude.{ℕ, nat_le, if◌then◌else◌, List, [], ◌∷◌, length, Option, Some, None}
 use Rattle.c_tree.specs.declared.cause.EntryCause.{EntryCause}
 use Rattle.c_tree.specs.declared.cause.FileCause.{FileCause}
-use Rattle.c_tree.specs.declared.cause.SourceCause.{SourceCause}
 use Rattle.c_tree.specs.declared.event.Event.{Event}
 use Rattle.c_tree.specs.declared.lifted.Lifted.{Lifted}
 use Rattle.c_tree.specs.declared.run.End.{End}
 use Rattle.history.specs.History.{history}
 use Rattle.reports.specs.Line as line
-use Rattle.upstare_cmd.specs.declared.status.Status.{Status}
-use Rattle.upstare_cmd.specs.declared.status.Status.TheVariants as st
-use Rattle.upstare_cmd.specs.Answer.{Answer, Piece, ToOut, ToFile}
-use Rattle.upstare_cmd.specs.Status.{code, status_of}
-
--- a line alone
-abbrev pub says : List ℕ → Status → Answer
-says line status = record { pieces = []; line = line; status = code status }
+use Rattle.answers.specs.declared.status.Status.{Status}
+use Rattle.answers.specs.declared.status.Status.TheVariants as st
+use Rattle.answers.specs.Refusals.{patch_too_long, says}
+use Rattle.answers.specs.Wanted.{max_patch}
+use Rattle.answers.specs.Answer.{Answer, Piece, ToOut, ToFile}
+use Rattle.answers.specs.Status.{code, status_of}
 
 -- a text for out and then a line
 abbrev pub puts : List ℕ → List ℕ → Status → Answer
@@ -26,37 +22,17 @@ puts text line status = record { pieces = ToOut text ∷ []; line = line; status
 abbrev pub prints : List ℕ → Answer
 prints text = puts text [] st.Done
 
--- a file that could not be read
-abbrev pub cannot_read : List ℕ → Answer
-cannot_read name = says (line.cannot_read name) st.ReadFault
-
 -- words that are no command
 abbrev pub usage : Answer
 usage = says line.usage st.Usage
-
--- a source that is refused, at an offset in bytes
-abbrev pub refused : List ℕ → ℕ → SourceCause → Answer
-refused name at why = says (line.refused name at why) st.SourceRefused
-
--- an input or a schedule that has more bytes than it may
-abbrev pub too_long : List ℕ → Answer
-too_long name = says (line.too_long name) st.TooLong
 
 -- a schedule that is refused at its event of this number, from 1
 abbrev pub schedule_refused : List ℕ → ℕ → Answer
 schedule_refused name n = says (line.schedule_refused name n) st.ScheduleRefused
 
--- a mapping that is refused, at an offset in bytes
-abbrev pub map_refused : List ℕ → ℕ → ReadCause → Answer
-map_refused name at why = says (line.map_refused name at why) st.MapRefused
-
 -- a mapping whose entry of this number, from 1, is unsound
 abbrev pub map_unsound : List ℕ → ℕ → EntryCause → Answer
 map_unsound name number why = says (line.map_unsound name number why) st.MapRefused
-
--- a patch whose file has more bytes than it may
-abbrev pub patch_too_long : List ℕ → Answer
-patch_too_long name = says (line.patch_too_long name) st.MapRefused
 
 -- a file that is no patch, at an offset in bytes
 abbrev pub patch_refused : List ℕ → ℕ → FileCause → Answer
@@ -65,10 +41,6 @@ patch_refused name at why = says (line.patch_refused name at why) st.MapRefused
 -- a patch whose old source is another text: how many bytes the two have, and where they differ
 abbrev pub patch_differs : List ℕ → ℕ → ℕ → ℕ → Answer
 patch_differs name source old at = says (line.patch_differs name source old at) st.MapRefused
-
--- the most bytes of a patch's file
-abbrev pub max_patch : ℕ
-max_patch = 4194304
 
 -- a patch for its file, and then how many bytes it has for out
 abbrev pub patch_written : List ℕ → List ℕ → Answer

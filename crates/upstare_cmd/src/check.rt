@@ -3,10 +3,10 @@
 ghost use Rattle.std.specs.Prelude.{◌≡◌, IfOk};
 ghost use Rattle.upstare_cmd.specs.Parts as parts;
 ghost use Rattle.upstare_cmd.specs.Replies as replies;
-ghost use Rattle.upstare_cmd.specs.Views as view;
+ghost use Rattle.answers.specs.Views as view;
 
-use crate::answer::Answer;
 use crate::reply::{prints, turned_down};
+use answers::Answer;
 use c_source::accepted;
 use c_tree::Lifted;
 use reports::line;

@@ -4,10 +4,10 @@
 ghost use Rattle.std.specs.Prelude.{◌≤◌, IfOk, length};
 ghost use Rattle.c_places.specs.Limit.{KeepsLimit};
 ghost use Rattle.c_tree.specs.MapForm.{HasMapForm};
-ghost use Rattle.upstare_cmd.specs.Views as view;
+ghost use Rattle.upstare_cmd.specs.Views as inner;
 
-use crate::answer::Answer;
 use crate::reply::{entry_turned_down, map_turned_down, turned_down};
+use answers::Answer;
 use c_source::accepted;
 use c_tree::{Lifted, Mapping, Text};
 use map_lang::read_map;
@@ -44,7 +44,7 @@ fn entries_judged(
     requires new_limit { KeepsLimit new }
     requires form { HasMapForm mapping.now }
     ensures { IfOk result
-        (view.IsOfEntries (view.names names.now) old_text.now old new_text.now new mapping.now) }
+        (inner.IsOfEntries (inner.names names.now) old_text.now old new_text.now new mapping.now) }
 {
     let old_text = Text::from_vec(old_text.to_vec(alloc)?);
     let new_text = Text::from_vec(new_text.to_vec(alloc)?);
@@ -67,7 +67,7 @@ fn mapping_judged(
     requires new_limit { KeepsLimit new }
     requires small { length map_text.now ≤ 4194304 }
     ensures { IfOk result
-        (view.IsOfMapping (view.names names.now) old_text.now old new_text.now new map_text.now) }
+        (inner.IsOfMapping (inner.names names.now) old_text.now old new_text.now new map_text.now) }
 {
     match read_map(alloc, map_text) {
         Ok(mapping) => entries_judged(alloc, names, old_text, old, new_text, new, &mapping),
@@ -86,7 +86,7 @@ fn new_judged(
     requires limit { KeepsLimit old }
     requires small { length map_text.now ≤ 4194304 }
     ensures { IfOk result
-        (view.IsOfNew (view.names names.now) old_text.now old new_text.now map_text.now) }
+        (inner.IsOfNew (inner.names names.now) old_text.now old new_text.now map_text.now) }
 {
     match accepted(alloc, new_text) {
         Ok(new) => mapping_judged(alloc, names, old_text, old, new_text, new, map_text),
@@ -104,7 +104,7 @@ pub fn texts_judged(
 ) -> Result<Judged, AllocError>
     requires small { length map_text.now ≤ 4194304 }
     ensures { IfOk result
-        (view.IsOfTexts (view.names names.now) old_text.now new_text.now map_text.now) }
+        (inner.IsOfTexts (inner.names names.now) old_text.now new_text.now map_text.now) }
 {
     match accepted(alloc, old_text) {
         Ok(old) => new_judged(alloc, names, old_text, old, new_text, map_text),

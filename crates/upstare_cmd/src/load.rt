@@ -1,17 +1,16 @@
 //! The command `load`: a large update made from one number.
 
 ghost use Rattle.std.specs.Prelude.{◌≡◌, ◌≤◌, ◌∷◌, [], IfOk, Some};
-ghost use Rattle.upstare_cmd.specs.Answer as meant;
+ghost use Rattle.answers.specs.Answer as meant;
 ghost use Rattle.upstare_cmd.specs.Arming.{Fits};
 ghost use Rattle.upstare_cmd.specs.Meaning as meaning;
-ghost use Rattle.upstare_cmd.specs.Views as view;
+ghost use Rattle.answers.specs.Views as view;
 ghost use Rattle.world_core.specs.History.{over};
 
-use crate::answer::{Answer, Piece};
 use crate::judged::{Judged, TextNames, texts_judged};
 use crate::run::started;
-use crate::status::status_of;
 use crate::told::update_words;
+use answers::{Answer, Piece, status_of};
 use c_tree::{End, Patch, Row, Text};
 use drive::drive_round;
 use load_texts::{mapping, mappings_are_short, new_source, old_source, request_at};

@@ -2,28 +2,18 @@
 
 ghost use Rattle.std.specs.Prelude.{◌≡◌, IfOk};
 ghost use Rattle.upstare_cmd.specs.Replies as replies;
-ghost use Rattle.upstare_cmd.specs.Views as view;
+ghost use Rattle.answers.specs.Views as view;
+ghost use Rattle.upstare_cmd.specs.Views as inner;
 
-use crate::answer::{Answer, Piece};
-use crate::status::Status;
+use answers::refusal::{map_refused, refused, says};
+use answers::{Answer, Piece, Status};
 use c_source::SourceRefused;
-use c_tree::{EntryCause, FileCause, ReadCause, Row, SourceCause, Text};
+use c_tree::{EntryCause, FileCause, Row, Text};
 use map_lang::MapRefused;
 use patch_file::FileRefused;
 use patch_maker::PatchRefused;
 use reports::line;
 use std::alloc::{AllocError, Global};
-
-/// A line alone.
-fn says(alloc: Global, line: Text, status: Status) -> Answer
-    ensures { view.answer result ≡ replies.says line status }
-{
-    Answer {
-        pieces: Row::from_vec(Vec::new(alloc)),
-        line,
-        status,
-    }
-}
 
 /// A text for the output, and then a line.
 fn puts(alloc: Global, text: Text, line: Text, status: Status) -> Result<Answer, AllocError>
@@ -53,40 +43,6 @@ pub fn usage(alloc: Global) -> Result<Answer, AllocError>
     Ok(says(alloc, line::usage(alloc)?, Status::Usage))
 }
 
-/// A file could not be read.
-pub fn cannot_read(alloc: Global, name: &str) -> Result<Answer, AllocError>
-    ensures { IfOk result (λ a. view.answer a ≡ replies.cannot_read name.now) }
-{
-    Ok(says(alloc, line::cannot_read(alloc, name)?, Status::ReadFault))
-}
-
-/// A source is refused, `at` bytes from its start.
-pub fn refused(alloc: Global, name: &str, at: u32, why: &SourceCause) -> Result<Answer, AllocError>
-    ensures { IfOk result (λ a. view.answer a ≡ replies.refused name.now at why.now) }
-{
-    Ok(says(
-        alloc,
-        line::refused(alloc, name, at, why)?,
-        Status::SourceRefused,
-    ))
-}
-
-/// A mapping is refused, `at` bytes from its start.
-pub fn map_refused(
-    alloc: Global,
-    name: &str,
-    at: u32,
-    why: &ReadCause,
-) -> Result<Answer, AllocError>
-    ensures { IfOk result (λ a. view.answer a ≡ replies.map_refused name.now at why.now) }
-{
-    Ok(says(
-        alloc,
-        line::map_refused(alloc, name, at, why)?,
-        Status::MapRefused,
-    ))
-}
-
 /// A mapping has an unsound entry of this number, from 1.
 pub fn map_unsound(
     alloc: Global,
@@ -99,17 +55,6 @@ pub fn map_unsound(
     Ok(says(
         alloc,
         line::map_unsound(alloc, name, entry, why)?,
-        Status::MapRefused,
-    ))
-}
-
-/// A patch would have more bytes than its file may.
-pub fn patch_too_long(alloc: Global, name: &str) -> Result<Answer, AllocError>
-    ensures { IfOk result (λ a. view.answer a ≡ replies.patch_too_long name.now) }
-{
-    Ok(says(
-        alloc,
-        line::patch_too_long(alloc, name)?,
         Status::MapRefused,
     ))
 }
@@ -163,13 +108,6 @@ pub fn patch_written(alloc: Global, name: &str, patch: Text) -> Result<Answer, A
     })
 }
 
-/// A file holds more than it may.
-pub fn too_long(alloc: Global, name: &str) -> Result<Answer, AllocError>
-    ensures { IfOk result (λ a. view.answer a ≡ replies.too_long name.now) }
-{
-    Ok(says(alloc, line::too_long(alloc, name)?, Status::TooLong))
-}
-
 /// A schedule is refused at its event of this number, from 1.
 pub fn schedule_refused(alloc: Global, name: &str, n: u64) -> Result<Answer, AllocError>
     ensures { IfOk result (λ a. view.answer a ≡ replies.schedule_refused name.now n) }
@@ -183,7 +121,7 @@ pub fn schedule_refused(alloc: Global, name: &str, n: u64) -> Result<Answer, All
 
 /// What is answered where a source gave no program.
 pub fn turned_down(alloc: Global, name: &str, why: SourceRefused) -> Result<Answer, AllocError>
-    ensures { IfOk result (λ a. view.TurnsDown name.now why (view.answer a)) }
+    ensures { IfOk result (λ a. inner.TurnsDown name.now why (view.answer a)) }
 {
     match why {
         SourceRefused::At(at, why) => refused(alloc, name, at, &why),
@@ -193,7 +131,7 @@ pub fn turned_down(alloc: Global, name: &str, why: SourceRefused) -> Result<Answ
 
 /// What is answered where a text gave no mapping.
 pub fn map_turned_down(alloc: Global, name: &str, why: MapRefused) -> Result<Answer, AllocError>
-    ensures { IfOk result (λ a. view.TurnsDownMap name.now why (view.answer a)) }
+    ensures { IfOk result (λ a. inner.TurnsDownMap name.now why (view.answer a)) }
 {
     match why {
         MapRefused::At(at, why) => map_refused(alloc, name, at, &why),
@@ -203,7 +141,7 @@ pub fn map_turned_down(alloc: Global, name: &str, why: MapRefused) -> Result<Ans
 
 /// What is answered where a mapping gave no patch.
 pub fn entry_turned_down(alloc: Global, name: &str, why: PatchRefused) -> Result<Answer, AllocError>
-    ensures { IfOk result (λ a. view.TurnsDownEntry name.now why (view.answer a)) }
+    ensures { IfOk result (λ a. inner.TurnsDownEntry name.now why (view.answer a)) }
 {
     match why {
         PatchRefused::Entry(entry, why) => map_unsound(alloc, name, entry, why),
@@ -213,7 +151,7 @@ pub fn entry_turned_down(alloc: Global, name: &str, why: PatchRefused) -> Result
 
 /// What is answered where bytes gave no patch.
 pub fn file_turned_down(alloc: Global, name: &str, why: FileRefused) -> Result<Answer, AllocError>
-    ensures { IfOk result (λ a. view.TurnsDownFile name.now why (view.answer a)) }
+    ensures { IfOk result (λ a. inner.TurnsDownFile name.now why (view.answer a)) }
 {
     match why {
         FileRefused::At(at, why) => patch_refused(alloc, name, at, &why),

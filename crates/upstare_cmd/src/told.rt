@@ -4,17 +4,16 @@ ghost use Rattle.std.specs.Prelude.{◌≡◌, ◌∷◌, ◌++◌, IfOk, Some, 
 ghost use Rattle.c_places.specs.Limit.{KeepsLimit};
 ghost use Rattle.c_tree.specs.Link.{link_of};
 ghost use Rattle.reports.specs.Words.{reason as words_of};
-ghost use Rattle.upstare_cmd.specs.Answer as meant;
+ghost use Rattle.answers.specs.Answer as meant;
 ghost use Rattle.upstare_cmd.specs.Meaning as meaning;
 ghost use Rattle.upstare_cmd.specs.Replies as replies;
 ghost use Rattle.upstare_cmd.specs.Update as updates;
-ghost use Rattle.upstare_cmd.specs.Views as view;
+ghost use Rattle.answers.specs.Views as view;
 ghost use Rattle.command_line.specs.Views as words_view;
 ghost use Rattle.world_core.specs.History.{over};
 ghost use Rattle.world_core.specs.Refused.{named_at_refusal};
 
-use crate::answer::{Answer, Piece};
-use crate::status::status_of;
+use answers::{Answer, Piece, status_of};
 use c_tree::{End, Event, Patch, Reason, Row, Text};
 use drive::history_text;
 use reports::{line, reason_words};

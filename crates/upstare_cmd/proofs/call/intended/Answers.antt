@@ -1,5 +1,5 @@
 use Rattle.std.proofs.Common.{ap, ◌∙◌}
-use Rattle.upstare_cmd.specs.Views as view
+use Rattle.answers.specs.Views as view
 use Rattle.upstare_cmd.proofs.Refusing.{intended}
 use Rattle.upstare_cmd.proofs.call.intended.Goals as goal
 

@@ -1,6 +1,6 @@
 use Rattle.std.proofs.Common.{◌≡◌, [], rules}
 use Rattle.world_core.specs.History.{core}
-use Rattle.upstare_cmd.specs.Views as view
+use Rattle.answers.specs.Views as view
 use Rattle.upstare_cmd.proofs.Loading.{tells}
 use Rattle.upstare_cmd.proofs.load.told.Goals as goal
 

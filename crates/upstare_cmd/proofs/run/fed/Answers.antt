@@ -1,6 +1,6 @@
 use Rattle.std.specs.Prelude.{IfOk}
 use Rattle.upstare_cmd.specs.Parts as parts
-use Rattle.upstare_cmd.specs.Views as view
+use Rattle.answers.specs.Views as view
 use Rattle.command_line.specs.Views as words_view
 use Rattle.upstare_cmd.proofs.Running.{of_begun}
 use Rattle.upstare_cmd.proofs.run.fed.Goals as goal

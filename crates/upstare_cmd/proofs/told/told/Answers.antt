@@ -1,7 +1,7 @@
 use Rattle.std.proofs.Common.{◌≡◌, rules}
 use Rattle.command_line.specs.Views as words_view
 use Rattle.world_core.specs.History.{core}
-use Rattle.upstare_cmd.specs.Views as view
+use Rattle.answers.specs.Views as view
 use Rattle.upstare_cmd.proofs.Running.{tells}
 use Rattle.upstare_cmd.proofs.told.told.Goals as goal
 

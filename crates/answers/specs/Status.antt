@@ -2,8 +2,8 @@
 use Rattle.std.specs.Prelude.{ℕ}
 use Rattle.c_tree.specs.declared.run.End.{End}
 use Rattle.c_tree.specs.declared.run.End.TheVariants as end
-use Rattle.upstare_cmd.specs.declared.status.Status.{Status}
-use Rattle.upstare_cmd.specs.declared.status.Status.TheVariants as s
+use Rattle.answers.specs.declared.status.Status.{Status}
+use Rattle.answers.specs.declared.status.Status.TheVariants as s
 
 -- the number of a status, with which the tool exits
 abbrev pub code : Status → ℕ

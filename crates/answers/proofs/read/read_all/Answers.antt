@@ -1,6 +1,6 @@
 use Rattle.std.proofs.Common.{refl, arith}
-use Rattle.upstare_cmd.proofs.Reading.{more_read, stops_here, begins_here, all_read, all_begun, then_reads}
-use Rattle.upstare_cmd.proofs.read.read_all.Goals as goal
+use Rattle.answers.proofs.Reading.{more_read, stops_here, begins_here, all_read, all_begun, then_reads}
+use Rattle.answers.proofs.read.read_all.Goals as goal
 
 pub returns-in-Err-clause-taken : goal.returns-in-Err-clause-taken
 returns-in-Err-clause-taken g c =

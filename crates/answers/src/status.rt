@@ -1,7 +1,7 @@
 //! The statuses of a call: the only place where they are numbers.
 
 ghost use Rattle.std.specs.Prelude.{◌≡◌};
-ghost use Rattle.upstare_cmd.specs.Status as spec;
+ghost use Rattle.answers.specs.Status as spec;
 
 use c_tree::End;
 

@@ -8,11 +8,11 @@ use Rattle.up_base.specs.Reading.{asked, counted, faulted, missed, overran}
 use Rattle.up_base.specs.declared.reading.Reading.{Reading}
 use Rattle.up_base.specs.declared.refusal.ReadEnd.{ReadEnd}
 use Rattle.up_base.specs.declared.refusal.ReadEnd.TheVariants as ends
-use Rattle.upstare_cmd.specs.Answer.{Answer}
-use Rattle.upstare_cmd.specs.Asked.{Wanted}
-use Rattle.upstare_cmd.specs.Reading.{AreBegun, AreRead, Begins, IsLong, IsLost, Stops}
-use Rattle.upstare_cmd.specs.declared.read.WantedFile.{WantedFile}
-use Rattle.upstare_cmd.specs.Views.{Asks, Rereads, IsText, IsStop, Fit, file, files}
+use Rattle.answers.specs.Answer.{Answer}
+use Rattle.answers.specs.Wanted.{Wanted}
+use Rattle.answers.specs.Reading.{AreBegun, AreRead, Begins, IsLong, IsLost, Stops}
+use Rattle.answers.specs.declared.read.WantedFile.{WantedFile}
+use Rattle.answers.specs.Views.{Asks, Rereads, IsText, IsStop, Fit, file, files}
 
 -- what a read came to is what its file comes to
 one_begun : (f : Wanted) (result : Result (Vec ℕ Global) ReadEnd) (before now : Reading) → now ≡ counted f.limit result before → Begins (f ∷ []) before now
