@@ -1,8 +1,8 @@
 //! The names of a program at hand: those that it declares, in text order, and the number of each
 //! without a search.
 //!
-//! The layers above rest on `File`, a program whose declarations are found by their names; beside it
-//! stands what lies behind a name that was found: a function, a type, a length.
+//! The layers above rest on `File`, a program whose declarations are found by their names. Beside
+//! it stands what lies behind a name that was found: a function, a type, a length.
 #![tactic(auto)]
 
 mod file;

@@ -1,5 +1,5 @@
 -- Entries that lift and do not clash lift as a whole mapping.
-use Rattle.std.proofs.Common.{◌≡◌, ℕ, ◌+◌, Bool, false, List, [], ◌∷◌, Ok, refl, ◌∙◌, ap}
+use Rattle.std.proofs.Common.{◌≡◌, ℕ, ◌+◌, Bool, false, List, [], ◌∷◌, Ok, refl, sym, ◌∙◌, ap}
 use Rattle.std.specs.Prelude.{◌||◌}
 use Rattle.std.specs.List.{list_any}
 use Rattle.std.proofs.lemmas.Bool.{or_parts, or_from}
@@ -11,7 +11,9 @@ use Rattle.c_tree.specs.Link.{Link, Claim, link_of}
 use Rattle.c_tree.specs.Refusal.{onward, refuse_if}
 use Rattle.c_tree.specs.Sound.{numbers_clash}
 use Rattle.c_tree.specs.Canonical.{canonical, canonical_entries}
-use Rattle.c_tree.specs.Entries.{clash, with_number, all_claims, all_entries, link_by_names, lifted_entries}
+use Rattle.c_tree.specs.Causes.{clash}
+use Rattle.c_tree.specs.Entries.{with_number, all_claims, all_entries, link_by_names, lifted_entries}
+use Rattle.patch_laws.proofs.AskedInOrder.{asked_in_order}
 use Rattle.patch_laws.proofs.Sorting.{any_pair}
 use Rattle.patch_laws.proofs.Clash.{AllLift, clashes_by_numbers, clash_swapped}
 use Rattle.patch_laws.proofs.Kept.{canonical_kept}
@@ -40,7 +42,8 @@ entries_again k i earlier (x ∷ xs) done (y ∷ es) a b free pairs =
     let p = or_parts (list_any (numbers_clash y) done) (apart done es) free in
     let q = or_parts (list_any (numbers_clash y) es) (any_pair numbers_clash es) pairs in
     let more : all_entries k (i + 1) (x ∷ earlier) xs ≡ Ok es = entries_again k (i + 1) (x ∷ earlier) xs (y ∷ done) es (b.0, a) b.1 (grown y done es q.0 p.1) q.1 in
-    ap (λ o. onward (with_number i (onward o (λ z. refuse_if (list_any (clash x) earlier) c.Twice (Ok z)))) (λ z. onward (all_entries k (i + 1) (x ∷ earlier) xs) (λ zs. Ok (z ∷ zs)))) b.0
+    ap (λ r. onward (with_number i r) (λ z. onward (all_entries k (i + 1) (x ∷ earlier) xs) (λ zs. Ok (z ∷ zs)))) (sym (asked_in_order k earlier x))
+    ∙ ap (λ o. onward (with_number i (onward o (λ z. refuse_if (list_any (clash x) earlier) c.Twice (Ok z)))) (λ z. onward (all_entries k (i + 1) (x ∷ earlier) xs) (λ zs. Ok (z ∷ zs)))) b.0
     ∙ ap (λ t. onward (with_number i (refuse_if t c.Twice (Ok y))) (λ z. onward (all_entries k (i + 1) (x ∷ earlier) xs) (λ zs. Ok (z ∷ zs)))) (clashes_by_numbers k x y earlier done b.0 a ∙ p.0)
     ∙ ap (λ o. onward o (λ zs. Ok (y ∷ zs))) more
 

@@ -30,7 +30,8 @@ use Rattle.c_tree.specs.Points.{place_of, point_of}
 use Rattle.c_tree.specs.Link.{Link, match_at, origin}
 use Rattle.c_tree.specs.MapExpr.{Reads, only_globals, numbered}
 use Rattle.c_tree.specs.Suits.{site, kinds_differ, callees_differ, reads_slots, reads_fields, suits_slot, suits_global, suits_check, has_twice}
-use Rattle.c_tree.specs.Entries.{both, all_there, new_number, suited, lifted_fill_at, lifted_fill, lifted_entry}
+use Rattle.c_tree.specs.Entries.{both, all_there}
+use Rattle.c_tree.specs.Chain.{new_number, suited, lifted_fill_at, lifted_fill, lifted_entry}
 use Rattle.c_tree.specs.Shown.{shown}
 use Rattle.c_tree.specs.Canonical.{placed_by, sorted_by, fills_in_order, with_fills_in_order, point_text, match_word, side_text, fills_text, entry_text}
 use Rattle.c_grammar.specs.declared.kind.Kind.TheVariants as kind

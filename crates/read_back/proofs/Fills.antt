@@ -16,7 +16,7 @@ use Rattle.c_tree.specs.Names.{find_name, slot_names}
 use Rattle.c_tree.specs.Link.{Link}
 use Rattle.c_tree.specs.MapExpr.{Reads, numbered}
 use Rattle.c_tree.specs.Suits.{suits_slot}
-use Rattle.c_tree.specs.Entries.{suited, lifted_fill_at, lifted_fill}
+use Rattle.c_tree.specs.Chain.{suited, lifted_fill_at, lifted_fill}
 use Rattle.c_tree.specs.Shown.{shown}
 use Rattle.c_tree.specs.Canonical.{point_text, fill_text, fills_text}
 use Rattle.c_grammar.specs.declared.kind.Kind.TheVariants as kind
