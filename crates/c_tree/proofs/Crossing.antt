@@ -13,6 +13,7 @@ use Rattle.c_tree.specs.contracts.lifted.Slot as Slot
 use Rattle.c_tree.specs.contracts.lifted.LStruct as LStruct
 use Rattle.c_tree.specs.contracts.lifted.LGlobal as LGlobal
 use Rattle.c_tree.specs.contracts.mapping.LFill as LFill
+use Rattle.c_tree.specs.contracts.mapping.LPart as LPart
 use Rattle.c_tree.specs.contracts.mapping.LEntry as LEntry
 use Rattle.c_tree.specs.contracts.mapping.Patch as Patch
 use Rattle.c_tree.specs.contracts.run.Armed as Armed
@@ -57,8 +58,11 @@ lifted_send = declared_send Lifted.the_type (row.the_send LStruct.the_row struct
 fill_send : IsSend LFill.the_row
 fill_send = declared_send LFill.the_type (search sendable, (expr_send, tt))
 
+part_send : IsSend LPart.the_row
+part_send = declared_send LPart.the_type (search sendable, (search sendable, (row.the_send LFill.the_row fill_send, tt)))
+
 entry_field : IsSend (LEntry.the_field).row
-entry_field = search (expr_field, row.the_send LFill.the_row fill_send, sendable) depth 20
+entry_field = search (expr_field, row.the_send LPart.the_row part_send, sendable) depth 20
 
 pub patch_send : IsSend Patch.the_row
 patch_send = declared_send Patch.the_type (text.the_send, (lifted_send, (text.the_send, (lifted_send, (row.the_send LEntry.the_row (as_row_send LEntry.the_field entry_field), tt)))))

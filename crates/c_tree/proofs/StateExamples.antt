@@ -19,7 +19,7 @@ use Rattle.c_tree.specs.Sound.{is_sound}
 use Rattle.c_tree.specs.Canonical.{canonical_entries, canonical_text}
 use Rattle.c_tree.specs.Update.{update}
 use Rattle.c_tree.specs.Compute.{literals}
-use Rattle.c_tree.proofs.UpdateExamples.{slot, scalar, counted, main_of, num, count_to, print_of, entry, main_loop, two, named, literal, patch, frame, object, state}
+use Rattle.c_tree.proofs.UpdateExamples.{slot, scalar, counted, main_of, num, count_to, print_of, entry, becomes, goes, main_loop, two, named, literal, patch, frame, object, state}
 
 -- A thread that waits for a mutex: its function is unchanged, so its frame stays where it is.
 
@@ -36,7 +36,7 @@ waits text = record {
 }
 
 abbrev pub wait_entries : List LEntry
-wait_entries = m.Point 1 5 5 [] ∷ []
+wait_entries = m.Point 1 5 (goes 1 5 []) ∷ []
 
 -- thread 0 holds the mutex and stands at its loop's end
 abbrev pub waiting : State
@@ -78,9 +78,9 @@ locks_new = record {
 }
 
 abbrev pub lock_entries : List LEntry
-lock_entries = m.Point 0 0 0 [] ∷ m.Point 0 4 3 [] ∷ []
+lock_entries = m.Point 0 0 (goes 0 0 []) ∷ m.Point 0 4 (goes 0 3 []) ∷ []
 
-pub lock_lifts : canonical_entries locks_old locks_new (main_loop ∷ n.Point (codes "main") entry entry [] ∷ []) ≡ Ok lock_entries
+pub lock_lifts : canonical_entries locks_old locks_new (main_loop ∷ n.Point (codes "main") entry (becomes entry []) ∷ []) ≡ Ok lock_entries
 unfolding literals
 lock_lifts = refl
 
@@ -127,7 +127,7 @@ abbrev pub items_new : Lifted
 items_new = items (slot (codes "value") ty.Int ∷ slot (codes "weight") ty.Int ∷ slot (codes "next") item ∷ []) 1
 
 abbrev pub item_entries : List LEntry
-item_entries = m.Field 0 1 (l.Bin bin.Mul (l.Own 0) (num 2)) ∷ m.Point 0 12 12 [] ∷ []
+item_entries = m.Field 0 1 (l.Bin bin.Mul (l.Own 0) (num 2)) ∷ m.Point 0 12 (goes 0 12 []) ∷ []
 
 abbrev pub item_state : List (Option Object) → State
 item_state objects = record (state (1 ∷ 1 ∷ []) [] ((frame 0 12 (0 ∷ []) ∷ []) ∷ []) []) { heap = record { objects = objects } }
@@ -151,6 +151,6 @@ unfolding literals
 items_are_updated = refl
 
 -- where the struct has no match, the first living object is the reason
-pub item_is_removed : update (patch items_old items_new (m.Match 1 0 None ∷ m.Point 0 12 12 [] ∷ [])) (item_state (None ∷ object (7 ∷ 0 ∷ []) ∷ [])) ≡ Err (why.Removed 2)
+pub item_is_removed : update (patch items_old items_new (m.Match 1 0 None ∷ m.Point 0 12 (goes 0 12 []) ∷ [])) (item_state (None ∷ object (7 ∷ 0 ∷ []) ∷ [])) ≡ Err (why.Removed 2)
 unfolding literals
 item_is_removed = refl

@@ -5,6 +5,7 @@ use Rattle.c_tree.specs.declared.ty.Ty.TheVariants as ty
 use Rattle.c_tree.specs.declared.op.UnOp.TheVariants as un
 use Rattle.c_tree.specs.declared.op.BinOp.{BinOp}
 use Rattle.c_tree.specs.declared.op.BinOp.TheVariants as bin
+use Rattle.c_tree.specs.declared.cause.EntryCause.{EntryCause}
 use Rattle.c_tree.specs.declared.cause.EntryCause.TheVariants as c
 use Rattle.c_tree.specs.declared.program.Expr.{Expr}
 use Rattle.c_tree.specs.declared.program.ExprKind.{ExprKind}
@@ -21,7 +22,9 @@ use Rattle.c_tree.specs.declared.lifted.Lifted.{Lifted}
 use Rattle.c_tree.specs.declared.place.PlaceKind.TheVariants as kind
 use Rattle.c_tree.specs.declared.mapping.Pt.{Pt}
 use Rattle.c_tree.specs.declared.mapping.Fill.{Fill}
+use Rattle.c_tree.specs.declared.mapping.Part.{Part}
 use Rattle.c_tree.specs.declared.mapping.LFill.{LFill}
+use Rattle.c_tree.specs.declared.mapping.LPart.{LPart}
 use Rattle.c_tree.specs.declared.mapping.Entry.{Entry}
 use Rattle.c_tree.specs.declared.mapping.Entry.TheVariants as n
 use Rattle.c_tree.specs.declared.mapping.LEntry.{LEntry}
@@ -73,8 +76,15 @@ loop k = record { kind = kind.LoopEnd; number = k }
 abbrev pub call : ℕ → Pt
 call k = record { kind = kind.Call; number = k }
 
+-- the one part of a frame that stays one
+abbrev pub becomes : Pt → List Fill → List Part
+becomes pt fills = record { function = None; point = pt; fills = fills } ∷ []
+
+abbrev pub goes : ℕ → ℕ → List LFill → List LPart
+goes f n fills = record { function = f; place = n; fills = fills } ∷ []
+
 abbrev pub main_loop : Entry
-main_loop = n.Point (codes "main") (loop 1) (loop 1) []
+main_loop = n.Point (codes "main") (loop 1) (becomes (loop 1) [])
 
 abbrev pub tree : ExprKind → Expr
 tree kind = record { at = 0; kind = kind }
@@ -131,7 +141,7 @@ abbrev pub counts_new : Lifted
 counts_new = counts (codes "new %d\n") counted
 
 abbrev pub loop_entries : List LEntry
-loop_entries = m.Point 0 4 4 [] ∷ []
+loop_entries = m.Point 0 4 (goes 0 4 []) ∷ []
 
 -- two rounds were made, and the thread stands at the loop's end
 abbrev pub two_rounds : State
@@ -159,7 +169,7 @@ unfolding literals
 entry_is_unmapped = refl
 
 -- there is no second loop
-pub loop_is_missing : lifted_entries counts_old counts_new (n.Point (codes "main") (loop 2) (loop 1) [] ∷ []) ≡ Err (record { entry = 1; cause = c.UnknownPoint })
+pub loop_is_missing : lifted_entries counts_old counts_new (n.Point (codes "main") (loop 2) (becomes (loop 1) []) ∷ []) ≡ Err (record { entry = 1; cause = c.UnknownPoint })
 unfolding literals
 loop_is_missing = refl
 
@@ -171,7 +181,7 @@ same_stays = refl
 -- `check n >= 3`
 
 abbrev pub check_entries : List LEntry
-check_entries = m.Point 0 4 4 [] ∷ m.Check (l.Bin bin.Ge (l.Global 0) (num 3)) ∷ []
+check_entries = m.Point 0 4 (goes 0 4 []) ∷ m.Check (l.Bin bin.Ge (l.Global 0) (num 3)) ∷ []
 
 pub check_lifts : canonical_entries counts_old counts_new (main_loop ∷ n.Check (two bin.Ge (named (codes "n")) (literal 3)) ∷ []) ≡ Ok check_entries
 unfolding literals
@@ -208,7 +218,7 @@ abbrev pub counts_with_k : Lifted
 counts_with_k = counts (codes "new %d\n") (counted ++ scalar (codes "k") ty.Int ∷ [])
 
 abbrev pub init_entries : List LEntry
-init_entries = m.Init 1 (l.Bin bin.Div (num 100) (l.Bin bin.Sub (l.Global 0) (num 2))) ∷ m.Point 0 4 4 [] ∷ []
+init_entries = m.Init 1 (l.Bin bin.Div (num 100) (l.Bin bin.Sub (l.Global 0) (num 2))) ∷ m.Point 0 4 (goes 0 4 []) ∷ []
 
 pub init_lifts : canonical_entries counts_old counts_with_k (main_loop ∷ n.Init (codes "k") (two bin.Div (literal 100) (e.Bin bin.Sub (tree (named (codes "n"))) (tree (literal 2)))) ∷ []) ≡ Ok init_entries
 unfolding literals
@@ -272,16 +282,16 @@ nested_new = nested
 
 abbrev pub nested_map : List Entry
 nested_map =
-    n.Point (codes "c") (loop 1) (loop 1) (fill (codes "w") (two bin.Mul (named (codes "n")) (literal 10)))
-    ∷ n.Point (codes "b") (call 1) (call 1) (fill (codes "w") (two bin.Mul (named (codes "x")) (literal 1000)))
-    ∷ n.Point (codes "a") (call 1) (call 1) (fill (codes "w") (two bin.Mul (named (codes "x")) (literal 100)))
+    n.Point (codes "c") (loop 1) (becomes (loop 1) (fill (codes "w") (two bin.Mul (named (codes "n")) (literal 10))))
+    ∷ n.Point (codes "b") (call 1) (becomes (call 1) (fill (codes "w") (two bin.Mul (named (codes "x")) (literal 1000))))
+    ∷ n.Point (codes "a") (call 1) (becomes (call 1) (fill (codes "w") (two bin.Mul (named (codes "x")) (literal 100))))
     ∷ []
 
 abbrev pub nested_entries : List LEntry
 nested_entries =
-    m.Point 0 4 4 (filled_by 1 (l.Bin bin.Mul (l.Global 0) (num 10)))
-    ∷ m.Point 1 1 1 (filled_by 2 (l.Bin bin.Mul (l.Slot 0) (num 1000)))
-    ∷ m.Point 2 1 1 (filled_by 1 (l.Bin bin.Mul (l.Slot 0) (num 100)))
+    m.Point 0 4 (goes 0 4 (filled_by 1 (l.Bin bin.Mul (l.Global 0) (num 10))))
+    ∷ m.Point 1 1 (goes 1 1 (filled_by 2 (l.Bin bin.Mul (l.Slot 0) (num 1000))))
+    ∷ m.Point 2 1 (goes 2 1 (filled_by 1 (l.Bin bin.Mul (l.Slot 0) (num 100))))
     ∷ []
 
 pub nested_lifts : canonical_entries nested_old nested_new nested_map ≡ Ok nested_entries
@@ -306,3 +316,94 @@ pub nested_is_updated :
     ≡ Ok (nested_stack (frame 2 1 (1 ∷ 100 ∷ 0 ∷ [])) (frame 1 1 (2 ∷ 0 ∷ 2000 ∷ [])) (frame 0 4 (3 ∷ 20 ∷ [])))
 unfolding literals
 nested_is_updated = refl
+
+-- The loop of `main` is a function of its own in the new version: one frame becomes two.
+
+abbrev pub counts_apart : Lifted
+counts_apart = record {
+  structs = [];
+  globals = counted;
+  mutexes = [];
+  functions =
+    int_function (codes "go") (slot (codes "k") ty.Int ∷ [])
+      (t.Loop [] (l.Bin bin.Lt (l.Global 0) (l.Slot 0)) (up_by_one 0 ∷ print_of (codes "new %d\n") (l.Global 0) ∷ []) [] ∷ t.Return (Some (l.Global 0)) ∷ [])
+    ∷ record { name = codes "main"; ret = ty.Int; params = 0; slots = r_slot ∷ []; body = t.Call (Some 0) 0 (num 4 ∷ []) ∷ t.Return (Some (l.Slot 0)) ∷ [] }
+    ∷ [];
+  main = 1;
+}
+
+-- an added part of the function `go`
+abbrev pub and_go : Pt → List Fill → Part
+and_go pt fills = record { function = Some (codes "go"); point = pt; fills = fills }
+
+abbrev pub k_is_four : List Fill
+k_is_four = fill (codes "k") (tree (literal 4))
+
+abbrev pub split : List Part → List Entry
+split added = n.Point (codes "main") (loop 1) (record { function = None; point = call 1; fills = [] } ∷ added) ∷ []
+
+abbrev pub split_entries : List LEntry
+split_entries =
+    m.Point 0 4 (record { function = 1; place = 1; fills = [] } ∷ record { function = 0; place = 4; fills = filled_by 0 (num 4) } ∷ []) ∷ []
+
+pub split_lifts : canonical_entries counts_old counts_apart (split (and_go (loop 1) k_is_four ∷ [])) ≡ Ok split_entries
+unfolding literals
+split_lifts = refl
+
+pub split_is_sound : is_sound counts_old counts_apart split_entries ≡ true
+unfolding literals
+split_is_sound = refl
+
+pub split_text : canonical_text counts_old counts_apart split_entries ≡ codes "point main loop 1 -> call 1 + go loop 1 { k = 4; };\n"
+unfolding literals
+split_text = refl
+
+-- the caller stands at its call with its new slot 0, and the loop goes on above it
+pub split_is_updated :
+    update (patch counts_old counts_apart split_entries) two_rounds
+    ≡ Ok (state (2 ∷ []) [] ((frame 1 1 (0 ∷ []) ∷ frame 0 4 (4 ∷ []) ∷ []) ∷ []) (codes "old 1\nold 2\n"))
+unfolding literals
+split_is_updated = refl
+
+-- a slot of an added frame is 0 where nothing is declared
+pub added_slot_is_zero :
+    update (patch counts_old counts_apart (m.Point 0 4 (goes 1 1 [] ++ goes 0 4 []) ∷ [])) two_rounds
+    ≡ Ok (state (2 ∷ []) [] ((frame 1 1 (0 ∷ []) ∷ frame 0 4 (0 ∷ []) ∷ []) ∷ []) (codes "old 1\nold 2\n"))
+unfolding literals
+added_slot_is_zero = refl
+
+-- why a split is unsound
+
+abbrev pub refused_as : EntryCause → List Part → Type 0
+refused_as cause added = lifted_entries counts_old counts_apart (split added) ≡ Err (record { entry = 1; cause = cause })
+
+pub part_is_unknown : refused_as c.UnknownFunction (record { function = Some (codes "gone"); point = loop 1; fills = [] } ∷ [])
+unfolding literals
+part_is_unknown = refl
+
+pub part_has_no_point : refused_as c.UnknownPoint (and_go (loop 2) [] ∷ [])
+unfolding literals
+part_has_no_point = refl
+
+-- an update place stands before the last part
+pub middle_is_no_call : refused_as c.KindDiffers (and_go (loop 1) k_is_four ∷ and_go entry [] ∷ [])
+unfolding literals
+middle_is_no_call = refl
+
+-- the last part stands at a call, and the old frame at none
+pub last_is_call : refused_as c.KindDiffers []
+unfolding literals
+last_is_call = refl
+
+-- `main` calls `go` and not itself
+pub part_is_not_called : refused_as c.CalleeDiffers (record { function = Some (codes "main"); point = entry; fills = [] } ∷ [])
+unfolding literals
+part_is_not_called = refl
+
+pub part_has_no_slot : refused_as c.BadExpr (and_go (loop 1) (fill (codes "r") (tree (literal 4))) ∷ [])
+unfolding literals
+part_has_no_slot = refl
+
+pub part_fills_twice : refused_as c.Twice (and_go (loop 1) (k_is_four ++ k_is_four) ∷ [])
+unfolding literals
+part_fills_twice = refl

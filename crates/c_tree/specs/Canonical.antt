@@ -5,6 +5,7 @@ use Rattle.c_tree.specs.declared.lifted.Lifted.{Lifted}
 use Rattle.c_tree.specs.declared.lifted.Slot.{Slot}
 use Rattle.c_tree.specs.declared.mapping.Pt.{Pt}
 use Rattle.c_tree.specs.declared.mapping.LFill.{LFill}
+use Rattle.c_tree.specs.declared.mapping.LPart.{LPart}
 use Rattle.c_tree.specs.declared.mapping.Entry.{Entry}
 use Rattle.c_tree.specs.declared.mapping.LEntry.{LEntry}
 use Rattle.c_tree.specs.declared.mapping.LEntry.TheVariants as n
@@ -12,7 +13,7 @@ use Rattle.c_tree.specs.Step.{function_of}
 use Rattle.c_tree.specs.Refusal.{onward}
 use Rattle.c_tree.specs.Names.{name_at, slot_name, field_name}
 use Rattle.c_tree.specs.Points.{point, point_of}
-use Rattle.c_tree.specs.Link.{Link, link_of, match_at}
+use Rattle.c_tree.specs.Link.{Link, link_of}
 use Rattle.c_tree.specs.MapExpr.{Reads, only_globals}
 use Rattle.c_tree.specs.Suits.{reads_slots, reads_fields}
 use Rattle.c_tree.specs.Entries.{Unsound, lifted_entries}
@@ -43,7 +44,7 @@ abbrev pub key_of : LEntry → Key
 key_of (n.Match i old _) = key i old 0
 key_of (n.Field s i _) = key 4 s i
 key_of (n.Init g _) = key 5 g 0
-key_of (n.Point f p _ _) = key 6 f p
+key_of (n.Point f p _) = key 6 f p
 key_of (n.Check _) = key 7 0 0
 
 -- one key is less than another
@@ -52,13 +53,17 @@ is_before a b =
     nat_lt a.group b.group
     || a.group == b.group && (nat_lt a.first b.first || a.first == b.first && nat_lt a.second b.second)
 
--- slots stand in the new function's order
+-- the slots of a part stand in the order of its function
 abbrev pub fills_in_order : List LFill → List LFill
 fills_in_order fills = sorted_by (λ a b. nat_lt a.slot b.slot) fills
 
--- an entry with its slots in order
+-- a part with its slots in order
+abbrev pub part_in_order : LPart → LPart
+part_in_order p = record p { fills = fills_in_order p.fills }
+
+-- an entry with the slots of each part in order
 abbrev pub with_fills_in_order : LEntry → LEntry
-with_fills_in_order (n.Point f p q fills) = n.Point f p q (fills_in_order fills)
+with_fills_in_order (n.Point f p parts) = n.Point f p (map part_in_order parts)
 with_fills_in_order x = x
 
 -- the entries of a patch, in their order
@@ -90,19 +95,29 @@ abbrev pub fills_text : Reads → List Slot → List LFill → List ℕ
 fills_text r slots [] = []
 fills_text r slots (x ∷ rest) = codes " { " ++ flat_map (fill_text r slots) (x ∷ rest) ++ codes "}"
 
--- the match of a function, where there is one
-abbrev pub matched_function : Link → ℕ → ℕ
-matched_function k f = unwrap_or (match_at k.functions f) 0
+-- a part of a frame of the function f: its point, and what fills its slots
+abbrev pub part_text : Link → ℕ → LPart → List ℕ
+part_text k f p =
+    let b = function_of k.new p.function in
+    point_text (point_of b p.place) ++ fills_text (reads_slots k f) b.slots p.fills
+
+-- an added part also tells its function
+abbrev pub added_text : Link → ℕ → LPart → List ℕ
+added_text k f p = codes " + " ++ (function_of k.new p.function).name ++ 32 ∷ part_text k f p
+
+-- the parts of a frame of the function f
+abbrev pub parts_text : Link → ℕ → List LPart → List ℕ
+parts_text k f [] = []
+parts_text k f (p ∷ added) = part_text k f p ++ flat_map (added_text k f) added
 
 -- the text of an entry
 abbrev pub entry_text : Link → LEntry → List ℕ
 entry_text k (n.Match i old new) = match_word i ++ 32 ∷ name_at k.old i old ++ codes " -> " ++ side_text k.new i new
 entry_text k (n.Field s i x) = codes "field " ++ name_at k.new 1 s ++ 46 ∷ field_name k.new s i ++ codes " = " ++ shown (reads_fields k s) x
 entry_text k (n.Init g x) = codes "init " ++ name_at k.new 2 g ++ codes " = " ++ shown (only_globals k.old) x
-entry_text k (n.Point f p q fills) =
+entry_text k (n.Point f p parts) =
     let a = function_of k.old f in
-    let b = function_of k.new (matched_function k f) in
-    codes "point " ++ a.name ++ 32 ∷ point_text (point_of a p) ++ codes " -> " ++ point_text (point_of b q) ++ fills_text (reads_slots k f) b.slots fills
+    codes "point " ++ a.name ++ 32 ∷ point_text (point_of a p) ++ codes " -> " ++ parts_text k f parts
 entry_text k (n.Check x) = codes "check " ++ shown (only_globals k.old) x
 
 -- the text of a patch's entries, one a line

@@ -10,6 +10,7 @@ use Rattle.c_tree.specs.declared.lifted.Slot.{Slot}
 use Rattle.c_tree.specs.declared.program.Expr.{Expr}
 use Rattle.c_tree.specs.declared.place.PlaceKind.TheVariants as kind
 use Rattle.c_tree.specs.declared.mapping.Pt.{Pt}
+use Rattle.c_tree.specs.declared.mapping.Part.{Part}
 use Rattle.c_tree.specs.declared.mapping.Entry.{Entry}
 use Rattle.c_tree.specs.declared.mapping.Entry.TheVariants as n
 use Rattle.c_tree.specs.Scope.{is_same_name}
@@ -19,7 +20,7 @@ use Rattle.c_tree.specs.Points.{is_kind, place_of, callee_at}
 use Rattle.c_tree.specs.StartForm.{is_start}
 use Rattle.c_tree.specs.Link.{Link, match_at, origin}
 use Rattle.c_tree.specs.MapExpr.{Reads, slots_of, fields_of, reads_of, only_globals, numbered, scalar_type}
-use Rattle.c_tree.specs.Suits.{match_of_callee, suits, slot_asked, suits_check}
+use Rattle.c_tree.specs.Suits.{match_of_callee, some_neighbours, last_is, suits, slot_asked, suits_check}
 
 -- exactly one of two holds
 abbrev pub exactly_one : Bool → Bool → Bool
@@ -47,38 +48,60 @@ old_function k name = find_name name (names_in k.old 0)
 abbrev pub new_function : Link → List ℕ → Option ℕ
 new_function k name = option_and_then (match_at k.functions) (old_function k name)
 
+-- the number of the function of a part: the new one that it names, or else the match of the old one
+abbrev pub function_of_part : Link → List ℕ → Option (List ℕ) → Option ℕ
+function_of_part k f None = new_function k f
+function_of_part k f (Some name) = find_name name (names_in k.new 0)
+
+-- the same of a part
+abbrev pub part_function : Link → List ℕ → Part → Option ℕ
+part_function k f p = function_of_part k f p.function
+
 -- a function's name is not there, or a place is mapped of an old function that has no match
 abbrev pub lacks_function : Link → Entry → Bool
 lacks_function k (n.Match i a b) = i == 0 && lacks_side k.old k.new i a b
-lacks_function k (n.Point f from to fills) = not (is_some (new_function k f))
+lacks_function k (n.Point f from parts) = not (is_some (new_function k f)) || list_any (λ p. not (is_some (part_function k f p))) parts
 lacks_function k _ = false
 
 -- a function that is there has a point
 abbrev pub has_point : Lifted → Option ℕ → Pt → Bool
 has_point p f pt = is_some (option_and_then (λ i. place_of (function_of p i) pt) f)
 
--- the old or the new point is not there
+-- the old point or the new point of a part is not there
 abbrev pub lacks_point : Link → Entry → Bool
-lacks_point k (n.Point f from to fills) = not (has_point k.old (old_function k f) from && has_point k.new (new_function k f) to)
+lacks_point k (n.Point f from parts) = not (has_point k.old (old_function k f) from) || list_any (λ p. not (has_point k.new (part_function k f p) p.point)) parts
 lacks_point k _ = false
 
 -- a point is one at which a function is called
 abbrev pub is_call : Pt → Bool
 is_call pt = is_kind kind.Call pt.kind
 
--- one of the two points is a call, and the other is an update point
+-- a part that isn't the last is no call; or of the old point and the last part's one is a call and the other an update point
 abbrev pub differs_in_kind : Entry → Bool
-differs_in_kind (n.Point f from to fills) = exactly_one (is_call from) (is_call to)
+differs_in_kind (n.Point f from parts) =
+    some_neighbours (λ p next. not (is_call p.point)) parts || last_is (λ p. exactly_one (is_call from) (is_call p.point)) parts
 differs_in_kind _ = false
 
 -- the function that is called at a point
 abbrev pub called_at : Lifted → Option ℕ → Pt → Option ℕ
 called_at p f pt = option_and_then (λ i. option_and_then (callee_at (function_of p i)) (place_of (function_of p i) pt)) f
 
--- both points are calls, and the new one is not of the match of what the old one calls
+-- the function that is called at a part's point
+abbrev pub part_callee : Link → List ℕ → Part → Option ℕ
+part_callee k f p = called_at k.new (part_function k f p) p.point
+
+-- a part is a call of another function than the next part's
+abbrev pub calls_another : Link → List ℕ → Part → Part → Bool
+calls_another k f p next = is_call p.point && not (same_number (part_callee k f p) (part_function k f next))
+
+-- the old point and a part's are calls, and the latter is not of the match of what the old one calls
+abbrev pub misses_callee : Link → List ℕ → Pt → Part → Bool
+misses_callee k f from p =
+    is_call from && is_call p.point && not (same_number (match_of_callee k (called_at k.old (old_function k f) from)) (part_callee k f p))
+
+-- a part that isn't the last is a call of another function than the next part's, or the last part misses the matched callee
 abbrev pub differs_in_callee : Link → Entry → Bool
-differs_in_callee k (n.Point f from to fills) =
-    is_call from && is_call to && not (same_number (match_of_callee k (called_at k.old (old_function k f) from)) (called_at k.new (new_function k f) to))
+differs_in_callee k (n.Point f from parts) = some_neighbours (calls_another k f) parts || last_is (misses_callee k f from) parts
 differs_in_callee k _ = false
 
 -- a name is that of `main`
@@ -131,12 +154,16 @@ old_struct k owner = option_and_then (origin k.structs) (new_struct k owner)
 abbrev pub scalar_named : Link → List ℕ → Option Ty
 scalar_named k name = option_and_then (λ g. scalar_type (slice_get k.new.globals g)) (find_name name (names_in k.new 2))
 
+-- an expression of a part does not fill its slot
+abbrev pub part_fills_badly : Link → List ℕ → Part → Bool
+part_fills_badly k f p =
+    list_any (λ x. not (can_fill k (reads_of k.old (old_function k f) None) (type_named (slots_of k.new (part_function k f p)) x.slot) x.expr)) p.fills
+
 -- what is filled is not there or is an array, or an expression does not fill it, or a check is no `int`
 abbrev pub fills_badly : Link → Entry → Bool
 fills_badly k (n.Field owner name x) = not (can_fill k (reads_of k.old None (old_struct k owner)) (type_named (fields_of k.new (new_struct k owner)) name) x)
 fills_badly k (n.Init name x) = not (can_fill k (only_globals k.old) (scalar_named k name) x)
-fills_badly k (n.Point f from to values) =
-    list_any (λ x. not (can_fill k (reads_of k.old (old_function k f) None) (type_named (slots_of k.new (new_function k f)) x.slot) x.expr)) values
+fills_badly k (n.Point f from parts) = list_any (part_fills_badly k f) parts
 fills_badly k (n.Check x) = not (some_passes (suits_check k) (numbered (only_globals k.old) x.kind))
 fills_badly k _ = false
 
@@ -145,9 +172,9 @@ abbrev pub has_name_twice : List (List ℕ) → Bool
 has_name_twice [] = false
 has_name_twice (x ∷ rest) = list_any (is_same_name x) rest || has_name_twice rest
 
--- an entry fills one slot twice
+-- an entry fills one slot of one part twice
 abbrev pub fills_twice : Entry → Bool
-fills_twice (n.Point f from to values) = has_name_twice (map (λ x. x.slot) values)
+fills_twice (n.Point f from parts) = list_any (λ p. has_name_twice (map (λ x. x.slot) p.fills)) parts
 fills_twice _ = false
 
 -- two new sides are there and have one name
@@ -160,10 +187,10 @@ abbrev pub clash : Entry → Entry → Bool
 clash (n.Match i a b) (n.Match j x y) = i == j && (is_same_name a x || same_side b y)
 clash (n.Field s a _) (n.Field t b _) = is_same_name s t && is_same_name a b
 clash (n.Init a _) (n.Init b _) = is_same_name a b
-clash (n.Point f p _ _) (n.Point g q _ _) = is_same_name f g && is_kind p.kind q.kind && p.number == q.number
+clash (n.Point f p _) (n.Point g q _) = is_same_name f g && is_kind p.kind q.kind && p.number == q.number
 clash _ _ = false
 
--- what an entry names an earlier one names too, or it fills one slot twice
+-- what an entry names an earlier one names too, or it fills one slot of one part twice
 abbrev pub says_again : List Entry → Entry → Bool
 says_again earlier x = list_any (clash x) earlier || fills_twice x
 

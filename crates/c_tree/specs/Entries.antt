@@ -7,9 +7,11 @@ use Rattle.c_tree.specs.declared.cause.EntryCause.TheVariants as c
 use Rattle.c_tree.specs.declared.lifted.Lifted.{Lifted}
 use Rattle.c_tree.specs.declared.lifted.Slot.{Slot}
 use Rattle.c_tree.specs.declared.mapping.Fill.{Fill}
+use Rattle.c_tree.specs.declared.mapping.Part.{Part}
 use Rattle.c_tree.specs.declared.mapping.Entry.{Entry}
 use Rattle.c_tree.specs.declared.mapping.Entry.TheVariants as n
 use Rattle.c_tree.specs.declared.mapping.LFill.{LFill}
+use Rattle.c_tree.specs.declared.mapping.LPart.{LPart}
 use Rattle.c_tree.specs.declared.mapping.LEntry.{LEntry}
 use Rattle.c_tree.specs.declared.mapping.LEntry.TheVariants as l
 use Rattle.c_tree.specs.Step.{function_of}
@@ -48,6 +50,19 @@ fill_by_numbers r slots x =
     if_there (numbered r x.expr.kind) (λ y.
     Some (record { slot = i; expr = y })))
 
+-- the number of a part's function: the new one that it names, or else the match of the old one
+abbrev pub function_in : Link → ℕ → Option (List ℕ) → Option ℕ
+function_in k g None = Some g
+function_in k g (Some name) = find_name name (names_in k.new 0)
+
+-- a part by numbers, for a frame of the old function f whose match is g
+abbrev pub part_by_numbers : Link → ℕ → ℕ → Part → Option LPart
+part_by_numbers k f g p =
+    if_there (function_in k g p.function) (λ h.
+    if_there (place_of (function_of k.new h) p.point) (λ m.
+    if_there (all_there (map (fill_by_numbers (reads_slots k f) (function_of k.new h).slots) p.fills)) (λ xs.
+    Some (record { function = h; place = m; fills = xs }))))
+
 -- an entry by numbers; None where a name, a place or a match is not there
 abbrev pub by_numbers : Link → Entry → Option LEntry
 by_numbers k (n.Match kind a b) =
@@ -63,13 +78,12 @@ by_numbers k (n.Init name x) =
     if_there (find_name name (names_in k.new 2)) (λ g.
     if_there (numbered (only_globals k.old) x.kind) (λ y.
     Some (l.Init g y)))
-by_numbers k (n.Point name from to fills) =
+by_numbers k (n.Point name from parts) =
     if_there (find_name name (names_in k.old 0)) (λ f.
     if_there (match_at k.functions f) (λ g.
     if_there (place_of (function_of k.old f) from) (λ i.
-    if_there (place_of (function_of k.new g) to) (λ j.
-    if_there (all_there (map (fill_by_numbers (reads_slots k f) (function_of k.new g).slots) fills)) (λ xs.
-    Some (l.Point f i j xs))))))
+    if_there (all_there (map (part_by_numbers k f g) parts)) (λ xs.
+    Some (l.Point f i xs)))))
 by_numbers k (n.Check x) = if_there (numbered (only_globals k.old) x.kind) (λ y. Some (l.Check y))
 
 -- the least cause that holds of an entry after some earlier ones

@@ -37,20 +37,46 @@ site f n = record { function = f; place = n }
 abbrev pub is_call_at : Lifted → Site → Bool
 is_call_at p s = is_kind kind.Call (kind_in (function_of p s.function) s.place)
 
+-- the function that is called there
+abbrev pub callee_of : Lifted → Site → Option ℕ
+callee_of p s = callee_at (function_of p s.function) s.place
+
+-- a test holds of two neighbours
+abbrev pub some_neighbours : {A : Type 0} → (A → A → Bool) → List A → Bool
+some_neighbours test [] = false
+some_neighbours test (x ∷ []) = false
+some_neighbours test (x ∷ y ∷ rest) = test x y || some_neighbours test (y ∷ rest)
+
+-- a test holds of the last one
+abbrev pub last_is : {A : Type 0} → (A → Bool) → List A → Bool
+last_is test [] = false
+last_is test (x ∷ []) = test x
+last_is test (x ∷ y ∷ rest) = last_is test (y ∷ rest)
+
 -- one of two places is a call and the other is not
-abbrev pub kinds_differ : Link → Site → Site → Bool
-kinds_differ k from to = if is_call_at k.old from then not (is_call_at k.new to) else is_call_at k.new to
+abbrev pub kind_differs : Link → Site → Site → Bool
+kind_differs k from to = if is_call_at k.old from then not (is_call_at k.new to) else is_call_at k.new to
+
+-- a part that isn't the last stands at no call; or of the old place and the last part's one is a call and the other is not
+abbrev pub kinds_differ : Link → Site → List Site → Bool
+kinds_differ k from parts = some_neighbours (λ s next. not (is_call_at k.new s)) parts || last_is (kind_differs k from) parts
 
 -- the match of a function that is called
 abbrev pub match_of_callee : Link → Option ℕ → Option ℕ
 match_of_callee k None = None
 match_of_callee k (Some f) = match_at k.functions f
 
+-- a part stands at a call of the next part's function
+abbrev pub links_to : Lifted → Site → Site → Bool
+links_to p s next = is_number (callee_of p s) next.function
+
 -- the old place is a call, and the new one is not one of the matched callee
-abbrev pub callees_differ : Link → Site → Site → Bool
-callees_differ k from to =
-    is_call_at k.old from
-    && not (same_number (match_of_callee k (callee_at (function_of k.old from.function) from.place)) (callee_at (function_of k.new to.function) to.place))
+abbrev pub callee_differs : Link → Site → Site → Bool
+callee_differs k from to = is_call_at k.old from && not (same_number (match_of_callee k (callee_of k.old from)) (callee_of k.new to))
+
+-- a part that isn't the last does not call the next one, or the last part does not call the match of what is called at the old place
+abbrev pub callees_differ : Link → Site → List Site → Bool
+callees_differ k from parts = some_neighbours (λ s next. not (links_to k.new s next)) parts || last_is (callee_differs k from) parts
 
 -- what an expression that fills a slot reads: the old function's slots
 abbrev pub reads_slots : Link → ℕ → Reads
