@@ -10,6 +10,7 @@ use Rattle.patch_form.specs.Framing.{IsFraming, BeginsFraming, IsCutShort, IsBad
 use Rattle.patch_form.specs.Answer.{IsFrame, IsFault}
 use Rattle.patch_form.specs.Laws.{EachIsAnswered, OneFraming, NoneIsShort, NoneIsBad, NoShortIsBad, OneOffset}
 use Rattle.patch_form.proofs.Languages.{Answer, Whole, Fails}
+use Rattle.patch_form.proofs.Heads.{one_head}
 use Rattle.patch_form.proofs.Files.{IsFile, part_of, once_part, part_injective, framed_parts, framing_from_file, file_fault, behind_file, answer_file}
 
 pub each_is_answered : EachIsAnswered
@@ -28,12 +29,12 @@ one_part word t u xs ys e =
     (part_injective word t u same, append_cancel_left (part_of word t) xs ys (e ∙ ap (λ l. l ++ ys) (sym same)))
 
 pub one_framing : OneFraming
-one_framing old new map old' new' map' e =
-    let whole = append_cancel_left (codes "upstare-patch 1\n") _ _ (sym (framed_parts old new map) ∙ e ∙ framed_parts old' new' map') in
-    let olds = one_part (codes "old ") old old' _ _ whole in
+one_framing f f' old new map old' new' map' e =
+    let heads = one_head f f' _ _ (sym (framed_parts f old new map) ∙ e ∙ framed_parts f' old' new' map') in
+    let olds = one_part (codes "old ") old old' _ _ heads.1 in
     let news = one_part (codes "new ") new new' _ _ olds.1 in
     let maps = one_part (codes "map ") map map' _ _ news.1 in
-    (olds.0, news.0, maps.0)
+    (heads.0, olds.0, news.0, maps.0)
 
 front_begins : (bytes : List ℕ) (k : ℕ) → BeginsFraming bytes → BeginsFraming (take k bytes)
 front_begins bytes k (more, framing) =
@@ -63,17 +64,17 @@ one_offset bytes a b p q = by (cases_lt a b) (cases_lt b a)
 -- an answer is what the bytes are, and only that
 
 pub exact_framing : (bytes : List ℕ) (r : Result Frame FrameFault) → MatchResult r (IsFrame bytes) (IsFault bytes) → IsOk r ↔ IsFraming bytes
-exact_framing bytes (Ok f) is = (λ ok. (f.old.text.now, (f.new.text.now, (f.map.text.now, is.whole))), λ framing. refl)
+exact_framing bytes (Ok f) is = (λ ok. (f.format, (f.old.text.now, (f.new.text.now, (f.map.text.now, is.whole)))), λ framing. refl)
 exact_framing bytes (Err Short) is = (λ ok. absurd (cc), λ framing. absurd (is.1 framing))
 exact_framing bytes (Err (BadHead at)) is = (λ ok. absurd (cc), λ framing. absurd (none_is_bad bytes at framing is))
 
 pub exact_short : (bytes : List ℕ) (r : Result Frame FrameFault) → MatchResult r (IsFrame bytes) (IsFault bytes) → (r ≡ Err Short) ↔ IsCutShort bytes
-exact_short bytes (Ok f) is = (λ e. absurd (cc), λ cut. absurd (cut.1 (f.old.text.now, (f.new.text.now, (f.map.text.now, is.whole)))))
+exact_short bytes (Ok f) is = (λ e. absurd (cc), λ cut. absurd (cut.1 (f.format, (f.old.text.now, (f.new.text.now, (f.map.text.now, is.whole))))))
 exact_short bytes (Err Short) is = (λ e. is, λ cut. refl)
 exact_short bytes (Err (BadHead at)) is = (λ e. absurd (cc), λ cut. absurd (no_short_is_bad bytes at cut is))
 
 pub exact_bad : (bytes : List ℕ) (r : Result Frame FrameFault) → MatchResult r (IsFrame bytes) (IsFault bytes) → (at : ℕ) → (r ≡ Err (BadHead at)) ↔ IsBadAt at bytes
-exact_bad bytes (Ok f) is at = (λ e. absurd (cc), λ bad. absurd (none_is_bad bytes at (f.old.text.now, (f.new.text.now, (f.map.text.now, is.whole))) bad))
+exact_bad bytes (Ok f) is at = (λ e. absurd (cc), λ bad. absurd (none_is_bad bytes at (f.format, (f.old.text.now, (f.new.text.now, (f.map.text.now, is.whole)))) bad))
 exact_bad bytes (Err Short) is at = (λ e. absurd (cc), λ bad. absurd (no_short_is_bad bytes at is bad))
 exact_bad bytes (Err (BadHead a)) is at = (
   λ e. let same : a ≡ at = cc in subst (λ (n : ℕ). IsBadAt n bytes) same is,

@@ -6,11 +6,13 @@ use Rattle.std.proofs.lemmas.List.{append-nil, append_cancel_left, length-append
 use Rattle.std.proofs.Math.Seq.{take-append-add}
 use Rattle.patch_form.specs.declared.fault.FrameFault.{FrameFault}
 use Rattle.patch_form.specs.declared.fault.FrameFault.TheVariants.{Short, BadHead}
-use Rattle.patch_form.specs.Framing.{number_line, framed, IsFraming, BeginsFraming, IsBadAt}
+use Rattle.patch_form.specs.declared.format.Format.{Format}
+use Rattle.patch_form.specs.Framing.{head, number_line, framed, IsFraming, BeginsFraming, IsBadAt}
 use Rattle.patch_form.specs.Answer.{IsFault}
-use Rattle.patch_form.specs.Parts.{Is, IsNumberLine, IsPart, Begins, NoneGoesOn, IsCut, IsFaultOf}
+use Rattle.patch_form.specs.Parts.{Is, IsHead, IsNumberLine, IsPart, Begins, NoneGoesOn, IsCut, IsFaultOf}
 use Rattle.patch_form.proofs.Languages.{HasOneAtFront, Joined, once_joined, Answer, Whole, Fails, answer_joined}
 use Rattle.patch_form.proofs.Words.{once_word, answer_word}
+use Rattle.patch_form.proofs.Heads.{once_head, answer_head}
 use Rattle.patch_form.proofs.Numbers.{once_line, line_injective, answer_line}
 
 -- a text behind the line of its length
@@ -93,7 +95,7 @@ abbrev pub IsFromOld : List ℕ → Type 0
 IsFromOld = Then (IsPart (codes "old ")) IsFromNew
 
 abbrev pub IsFile : List ℕ → Type 0
-IsFile = Then (Is (codes "upstare-patch 1\n")) IsFromOld
+IsFile = Then IsHead IsFromOld
 
 a_part : (word : List ℕ) → IsPart word (part_of word [])
 a_part word = ([], refl)
@@ -116,12 +118,12 @@ new_joined = then (IsPart (codes "new ")) IsFromMap (once_part (codes "new ")) f
 pub old_joined : Joined IsFromOld (IsPart (codes "old ")) (λ a. IsFromNew)
 old_joined = then (IsPart (codes "old ")) IsFromNew (once_part (codes "old ")) from_new
 
-pub file_joined : Joined IsFile (Is (codes "upstare-patch 1\n")) (λ a. IsFromOld)
-file_joined = then (Is (codes "upstare-patch 1\n")) IsFromOld (once_word (codes "upstare-patch 1\n")) from_old
+pub file_joined : Joined IsFile IsHead (λ a. IsFromOld)
+file_joined = then IsHead IsFromOld once_head from_old
 
 once_file : HasOneAtFront IsFile
 once_file =
-    once_joined IsFile (Is (codes "upstare-patch 1\n")) (λ a. IsFromOld) file_joined (λ a w.
+    once_joined IsFile IsHead (λ a. IsFromOld) file_joined (λ a w.
     once_joined IsFromOld (IsPart (codes "old ")) (λ a. IsFromNew) old_joined (λ a w.
     once_joined IsFromNew (IsPart (codes "new ")) (λ a. IsFromMap) new_joined (λ a w.
     once_joined IsFromMap (IsPart (codes "map ")) (λ a. IsFromEnd) map_joined (λ a w. once_word (codes "end\n")))))
@@ -131,17 +133,17 @@ regroup : (o w₁ l₁ t₁ w₂ l₂ t₂ w₃ l₃ t₃ e : List ℕ) →
     o ++ w₁ ++ l₁ ++ t₁ ++ w₂ ++ l₂ ++ t₂ ++ w₃ ++ l₃ ++ t₃ ++ e ≡ o ++ ((w₁ ++ l₁ ++ t₁) ++ ((w₂ ++ l₂ ++ t₂) ++ ((w₃ ++ l₃ ++ t₃) ++ e)))
 regroup o w₁ l₁ t₁ w₂ l₂ t₂ w₃ l₃ t₃ e = simp append_assoc
 
-pub framed_parts : (old new map : List ℕ) → framed old new map ≡ codes "upstare-patch 1\n" ++ (part_of (codes "old ") old ++ (part_of (codes "new ") new ++ (part_of (codes "map ") map ++ codes "end\n")))
-framed_parts old new map =
-    regroup (codes "upstare-patch 1\n") (codes "old ") (number_line (length old)) old (codes "new ") (number_line (length new)) new (codes "map ") (number_line (length map)) map (codes "end\n")
+pub framed_parts : (f : Format) (old new map : List ℕ) → framed f old new map ≡ head f ++ (part_of (codes "old ") old ++ (part_of (codes "new ") new ++ (part_of (codes "map ") map ++ codes "end\n")))
+framed_parts f old new map =
+    regroup (head f) (codes "old ") (number_line (length old)) old (codes "new ") (number_line (length new)) new (codes "map ") (number_line (length map)) map (codes "end\n")
 
 pub file_from_framing : (bytes : List ℕ) → IsFraming bytes → IsFile bytes
-file_from_framing bytes (old, (new, (map, e))) = (
-  codes "upstare-patch 1\n",
+file_from_framing bytes (f, (old, (new, (map, e)))) = (
+  head f,
   (
     part_of (codes "old ") old ++ (part_of (codes "new ") new ++ (part_of (codes "map ") map ++ codes "end\n")),
     (
-      refl,
+      (f, refl),
       (
         part_of (codes "old ") old,
         (
@@ -163,20 +165,23 @@ file_from_framing bytes (old, (new, (map, e))) = (
           ),
         ),
       ),
-      e ∙ framed_parts old new map,
+      e ∙ framed_parts f old new map,
     ),
   ),
 )
 
 pub framing_from_file : (bytes : List ℕ) → IsFile bytes → IsFraming bytes
 framing_from_file bytes (a, (b, (ea, (c, (d, (oc, (f, (g, (nf, (h, (i, (mh, ei, eg))), ed))), eb))), e))) = (
-  oc.0,
+  ea.0,
   (
-    nf.0,
+    oc.0,
     (
-      mh.0,
-      e ∙ ap₂ (λ x y. x ++ y) ea (eb ∙ ap₂ (λ x y. x ++ y) oc.1 (ed ∙ ap₂ (λ x y. x ++ y) nf.1 (eg ∙ ap₂ (λ x y. x ++ y) mh.1 ei)))
-          ∙ sym (framed_parts oc.0 nf.0 mh.0),
+      nf.0,
+      (
+        mh.0,
+        e ∙ ap₂ (λ x y. x ++ y) ea.1 (eb ∙ ap₂ (λ x y. x ++ y) oc.1 (ed ∙ ap₂ (λ x y. x ++ y) nf.1 (eg ∙ ap₂ (λ x y. x ++ y) mh.1 ei)))
+            ∙ sym (framed_parts ea.0 oc.0 nf.0 mh.0),
+      ),
     ),
   ),
 )
@@ -233,7 +238,7 @@ answer_part word =
 
 pub answer_file : (bytes : List ℕ) → Answer IsFile bytes
 answer_file =
-    answer_joined IsFile (Is (codes "upstare-patch 1\n")) (λ a. IsFromOld) file_joined (answer_word (codes "upstare-patch 1\n")) (λ a w.
+    answer_joined IsFile IsHead (λ a. IsFromOld) file_joined answer_head (λ a w.
     answer_joined IsFromOld (IsPart (codes "old ")) (λ a. IsFromNew) old_joined (answer_part (codes "old ")) (λ a w.
     answer_joined IsFromNew (IsPart (codes "new ")) (λ a. IsFromMap) new_joined (answer_part (codes "new ")) (λ a w.
     answer_joined IsFromMap (IsPart (codes "map ")) (λ a. IsFromEnd) map_joined (answer_part (codes "map ")) (λ a w. answer_word (codes "end\n")))))

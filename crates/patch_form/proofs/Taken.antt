@@ -5,9 +5,10 @@ use Rattle.std.proofs.lemmas.List.{append-nil, length-append, length-drop, lengt
 use Rattle.patch_form.specs.declared.fault.FrameFault.{FrameFault}
 use Rattle.patch_form.specs.declared.fault.FrameFault.TheVariants.{Short}
 use Rattle.patch_form.specs.declared.frame.Frame.{Frame}
-use Rattle.patch_form.specs.Framing.{number_line, framed, before_old, before_new, before_map, IsBadAt}
+use Rattle.patch_form.specs.declared.format.Format.{Format}
+use Rattle.patch_form.specs.Framing.{head, number_line, framed, before_old, before_new, before_map, IsBadAt}
 use Rattle.patch_form.specs.Answer.{IsFrame, IsFault}
-use Rattle.patch_form.specs.Parts.{Is, IsNumberLine, IsPart, IsCut, IsFaultOf}
+use Rattle.patch_form.specs.Parts.{Is, IsHead, IsNumberLine, IsPart, IsCut, IsFaultOf}
 use Rattle.patch_form.proofs.Languages.{Joined, fault_first, fault_second}
 use Rattle.patch_form.proofs.Files.{IsSized, IsSizedBy, sized, part, part_of, text_short, IsFile, IsFromOld, IsFromNew, IsFromMap, IsFromEnd, file_joined, old_joined, new_joined, map_joined, file_fault, behind_file, framed_parts, file_from_framing}
 
@@ -83,49 +84,50 @@ behind_part W Next word j bytes text at start next f p is fault =
 
 -- faults of a file, from its parts on
 
-pub from_old : (bytes : List ℕ) (at : ℕ) (f : FrameFault) → HasWord bytes (codes "upstare-patch 1\n") 0 at → IsFaultOf IsFromOld at (drop at bytes) f → IsFault bytes f
-from_old bytes at f w fault =
-    file_fault bytes f (fault_second IsFile (Is (codes "upstare-patch 1\n")) (λ a. IsFromOld) file_joined 0 at (codes "upstare-patch 1\n") (drop at bytes) bytes f refl w.0 w.2 fault)
+pub from_old : (bytes : List ℕ) (form : Format) (at : ℕ) (f : FrameFault) → HasWord bytes (head form) 0 at → IsFaultOf IsFromOld at (drop at bytes) f → IsFault bytes f
+from_old bytes form at f w fault =
+    file_fault bytes f (fault_second IsFile IsHead (λ a. IsFromOld) file_joined 0 at (head form) (drop at bytes) bytes f (form, refl) w.0 w.2 fault)
 
-pub from_new : (bytes old : List ℕ) (at start next : ℕ) (f : FrameFault) → HasWord bytes (codes "upstare-patch 1\n") 0 at → HasPart bytes (codes "old ") at start old → next ≡ start + length old → IsFaultOf IsFromNew next (drop next bytes) f → IsFault bytes f
-from_new bytes old at start next f w p is fault = from_old bytes at f w (behind_part IsFromOld IsFromNew (codes "old ") old_joined bytes old at start next f p is fault)
+pub from_new : (bytes : List ℕ) (form : Format) (old : List ℕ) (at start next : ℕ) (f : FrameFault) → HasWord bytes (head form) 0 at → HasPart bytes (codes "old ") at start old → next ≡ start + length old → IsFaultOf IsFromNew next (drop next bytes) f → IsFault bytes f
+from_new bytes form old at start next f w p is fault = from_old bytes form at f w (behind_part IsFromOld IsFromNew (codes "old ") old_joined bytes old at start next f p is fault)
 
 -- what stands before the map
-pub record ToMap (bytes : List ℕ) (at : ℕ) (old : List ℕ) (old_at next : ℕ) (new : List ℕ) (new_at behind : ℕ) : Type 0 where
-  pub opening : HasWord bytes (codes "upstare-patch 1\n") 0 at
+pub record ToMap (bytes : List ℕ) (form : Format) (at : ℕ) (old : List ℕ) (old_at next : ℕ) (new : List ℕ) (new_at behind : ℕ) : Type 0 where
+  pub opening : HasWord bytes (head form) 0 at
   pub first : HasPart bytes (codes "old ") at old_at old
   pub first_end : next ≡ old_at + length old
   pub second : HasPart bytes (codes "new ") next new_at new
   pub second_end : behind ≡ new_at + length new
 
-pub from_map : (bytes : List ℕ) (at : ℕ) (old : List ℕ) (old_at next : ℕ) (new : List ℕ) (new_at behind : ℕ) (f : FrameFault) → ToMap bytes at old old_at next new new_at behind → IsFaultOf IsFromMap behind (drop behind bytes) f → IsFault bytes f
-from_map bytes at old old_at next new new_at behind f to fault =
-    from_new bytes old at old_at next f to.opening to.first to.first_end (behind_part IsFromNew IsFromMap (codes "new ") new_joined bytes new next new_at behind f to.second to.second_end fault)
+pub from_map : (bytes : List ℕ) (form : Format) (at : ℕ) (old : List ℕ) (old_at next : ℕ) (new : List ℕ) (new_at behind : ℕ) (f : FrameFault) → ToMap bytes form at old old_at next new new_at behind → IsFaultOf IsFromMap behind (drop behind bytes) f → IsFault bytes f
+from_map bytes form at old old_at next new new_at behind f to fault =
+    from_new bytes form old at old_at next f to.opening to.first to.first_end (behind_part IsFromNew IsFromMap (codes "new ") new_joined bytes new next new_at behind f to.second to.second_end fault)
 
-pub from_end : (bytes : List ℕ) (at : ℕ) (old : List ℕ) (old_at next : ℕ) (new : List ℕ) (new_at behind : ℕ) (map : List ℕ) (map_at last : ℕ) (f : FrameFault) → ToMap bytes at old old_at next new new_at behind → HasPart bytes (codes "map ") behind map_at map → last ≡ map_at + length map → IsFaultOf IsFromEnd last (drop last bytes) f → IsFault bytes f
-from_end bytes at old old_at next new new_at behind map map_at last f to p is fault =
-    from_map bytes at old old_at next new new_at behind f to (behind_part IsFromMap IsFromEnd (codes "map ") map_joined bytes map behind map_at last f p is fault)
+pub from_end : (bytes : List ℕ) (form : Format) (at : ℕ) (old : List ℕ) (old_at next : ℕ) (new : List ℕ) (new_at behind : ℕ) (map : List ℕ) (map_at last : ℕ) (f : FrameFault) → ToMap bytes form at old old_at next new new_at behind → HasPart bytes (codes "map ") behind map_at map → last ≡ map_at + length map → IsFaultOf IsFromEnd last (drop last bytes) f → IsFault bytes f
+from_end bytes form at old old_at next new new_at behind map map_at last f to p is fault =
+    from_map bytes form at old old_at next new new_at behind f to (behind_part IsFromMap IsFromEnd (codes "map ") map_joined bytes map behind map_at last f p is fault)
 
 -- the whole file
 
 regroup : (o a b c e r : List ℕ) → o ++ (a ++ (b ++ (c ++ (e ++ r)))) ≡ (o ++ (a ++ (b ++ (c ++ e)))) ++ r
 regroup o a b c e r = simp append_assoc
 
-pub file_there : (bytes : List ℕ) (at : ℕ) (old : List ℕ) (old_at next : ℕ) (new : List ℕ) (new_at behind : ℕ) (map : List ℕ) (map_at last end : ℕ) → ToMap bytes at old old_at next new new_at behind → HasPart bytes (codes "map ") behind map_at map → last ≡ map_at + length map → HasWord bytes (codes "end\n") last end → bytes ≡ framed old new map ++ drop end bytes
-file_there bytes at old old_at next new new_at behind map map_at last end to p is w =
+pub file_there : (bytes : List ℕ) (form : Format) (at : ℕ) (old : List ℕ) (old_at next : ℕ) (new : List ℕ) (new_at behind : ℕ) (map : List ℕ) (map_at last end : ℕ) → ToMap bytes form at old old_at next new new_at behind → HasPart bytes (codes "map ") behind map_at map → last ≡ map_at + length map → HasWord bytes (codes "end\n") last end → bytes ≡ framed form old new map ++ drop end bytes
+file_there bytes form at old old_at next new new_at behind map map_at last end to p is w =
     to.opening.2
-    ∙ ap (λ l. codes "upstare-patch 1\n" ++ l) (to.first.2 ∙ ap (λ (n : ℕ). part_of (codes "old ") old ++ drop n bytes) (sym to.first_end)
+    ∙ ap (λ l. head form ++ l) (to.first.2 ∙ ap (λ (n : ℕ). part_of (codes "old ") old ++ drop n bytes) (sym to.first_end)
     ∙ ap (λ l. part_of (codes "old ") old ++ l) (to.second.2 ∙ ap (λ (n : ℕ). part_of (codes "new ") new ++ drop n bytes) (sym to.second_end)
     ∙ ap (λ l. part_of (codes "new ") new ++ l) (p.2 ∙ ap (λ (n : ℕ). part_of (codes "map ") map ++ drop n bytes) (sym is)
     ∙ ap (λ l. part_of (codes "map ") map ++ l) w.2)))
-    ∙ regroup (codes "upstare-patch 1\n") (part_of (codes "old ") old) (part_of (codes "new ") new) (part_of (codes "map ") map) (codes "end\n") (drop end bytes)
-    ∙ ap (λ l. l ++ drop end bytes) (sym (framed_parts old new map))
+    ∙ regroup (head form) (part_of (codes "old ") old) (part_of (codes "new ") new) (part_of (codes "map ") map) (codes "end\n") (drop end bytes)
+    ∙ ap (λ l. l ++ drop end bytes) (sym (framed_parts form old new map))
 
-pub bad_behind : (bytes old new map : List ℕ) (end : ℕ) → bytes ≡ framed old new map ++ drop end bytes → end < length bytes → IsBadAt end bytes
-bad_behind bytes old new map end whole lt =
-    let is : length (framed old new map) ≡ end = sym (ends bytes (framed old new map) 0 end (omega arith) (omega arith) whole ∙ zero-add (length (framed old new map))) in
+pub bad_behind : (bytes : List ℕ) (form : Format) (old new map : List ℕ) (end : ℕ) → bytes ≡ framed form old new map ++ drop end bytes → end < length bytes → IsBadAt end bytes
+bad_behind bytes form old new map end whole lt =
+    let file = framed form old new map in
+    let is : length file ≡ end = sym (ends bytes file 0 end (omega arith) (omega arith) whole ∙ zero-add (length file)) in
     subst (λ (n : ℕ). IsBadAt n bytes) is
-    (behind_file bytes (framed old new map) (drop end bytes) (file_from_framing (framed old new map) (old, (new, (map, refl)))) whole (omega (arith, length-drop end bytes)))
+    (behind_file bytes file (drop end bytes) (file_from_framing file (form, (old, (new, (map, refl))))) whole (omega (arith, length-drop end bytes)))
 
 -- where a text begins
 begins_at : (front word line : List ℕ) → length (front ++ word ++ line) ≡ length front + length (word ++ line)
@@ -135,16 +137,17 @@ begins_at front word line = omega (arith, length-append (front ++ word) line, le
 next_at : (front text word line : List ℕ) → length (front ++ text ++ word ++ line) ≡ length front + length text + length (word ++ line)
 next_at front text word line = omega (arith, begins_at (front ++ text) word line, length-append front text)
 
-pub frame_there : (bytes : List ℕ) (at next behind last end : ℕ) (f : Frame) → ToMap bytes at f.old.text.now f.old.at next f.new.text.now f.new.at behind → HasPart bytes (codes "map ") behind f.map.at f.map.text.now → last ≡ f.map.at + length f.map.text.now → HasWord bytes (codes "end\n") last end → length bytes ≤ end → IsFrame bytes f
+pub frame_there : (bytes : List ℕ) (at next behind last end : ℕ) (f : Frame) → ToMap bytes f.format at f.old.text.now f.old.at next f.new.text.now f.new.at behind → HasPart bytes (codes "map ") behind f.map.at f.map.text.now → last ≡ f.map.at + length f.map.text.now → HasWord bytes (codes "end\n") last end → length bytes ≤ end → IsFrame bytes f
 frame_there bytes at next behind last end f to p is w ge =
+    let form = f.format in
     let old = f.old.text.now in
     let new = f.new.text.now in
     let map = f.map.text.now in
-    let olds : f.old.at ≡ length (before_old old) = to.first.0 ∙ ap (λ (n : ℕ). n + length (codes "old " ++ number_line (length old))) to.opening.0 ∙ sym (begins_at (codes "upstare-patch 1\n") (codes "old ") (number_line (length old))) in
-    let news : f.new.at ≡ length (before_new old new) = to.second.0 ∙ ap (λ (n : ℕ). n + length (codes "new " ++ number_line (length new))) (to.first_end ∙ ap (λ (n : ℕ). n + length old) olds) ∙ sym (next_at (before_old old) old (codes "new ") (number_line (length new))) in
-    let maps : f.map.at ≡ length (before_map old new map) = p.0 ∙ ap (λ (n : ℕ). n + length (codes "map " ++ number_line (length map))) (to.second_end ∙ ap (λ (n : ℕ). n + length new) news) ∙ sym (next_at (before_new old new) new (codes "map ") (number_line (length map))) in
+    let olds : f.old.at ≡ length (before_old form old) = to.first.0 ∙ ap (λ (n : ℕ). n + length (codes "old " ++ number_line (length old))) to.opening.0 ∙ sym (begins_at (head form) (codes "old ") (number_line (length old))) in
+    let news : f.new.at ≡ length (before_new form old new) = to.second.0 ∙ ap (λ (n : ℕ). n + length (codes "new " ++ number_line (length new))) (to.first_end ∙ ap (λ (n : ℕ). n + length old) olds) ∙ sym (next_at (before_old form old) old (codes "new ") (number_line (length new))) in
+    let maps : f.map.at ≡ length (before_map form old new map) = p.0 ∙ ap (λ (n : ℕ). n + length (codes "map " ++ number_line (length map))) (to.second_end ∙ ap (λ (n : ℕ). n + length new) news) ∙ sym (next_at (before_new form old new) new (codes "map ") (number_line (length map))) in
     record {
-      whole = file_there bytes at old f.old.at next new f.new.at behind map f.map.at last end to p is w ∙ ap (λ l. framed old new map ++ l) (drop_all end bytes ge) ∙ append-nil (framed old new map);
+      whole = file_there bytes form at old f.old.at next new f.new.at behind map f.map.at last end to p is w ∙ ap (λ l. framed form old new map ++ l) (drop_all end bytes ge) ∙ append-nil (framed form old new map);
       old = olds;
       new = news;
       map = maps;

@@ -1,6 +1,8 @@
--- The bytes of a patch file: three texts, each behind a line with its length.
+-- The bytes of a patch file: a line that names its format, and three texts, each behind a line with its length.
 use Rattle.std.specs.Prelude.{◌≡◌, ℕ, zero, suc, ◌+◌, List, [], ◌∷◌, ◌++◌, length, map, take, codes}
 use Rattle.std.specs.Int.Digits.{digits_of}
+use Rattle.patch_form.specs.declared.format.Format.{Format}
+use Rattle.patch_form.specs.declared.format.Format.TheVariants.{One, Two}
 
 -- a number in decimal, of however many digits: 0 is `0`, and no other number begins with it
 unfoldable pub number_text : ℕ → List ℕ
@@ -11,25 +13,34 @@ number_text (suc n) = map (λ d. 48 + d) (digits_of 10 (suc n))
 abbrev pub number_line : ℕ → List ℕ
 number_line n = number_text n ++ 10 ∷ []
 
+-- the digit of a format
+abbrev pub digit : Format → ℕ
+digit One = 49
+digit Two = 50
+
+-- the first line, which names the format
+abbrev pub head : Format → List ℕ
+head f = codes "upstare-patch " ++ (digit f ∷ codes "\n")
+
 -- what stands before the old text: the first line, and the line with the old text's length
-abbrev pub before_old : List ℕ → List ℕ
-before_old old = codes "upstare-patch 1\n" ++ codes "old " ++ number_line (length old)
+abbrev pub before_old : Format → List ℕ → List ℕ
+before_old f old = head f ++ codes "old " ++ number_line (length old)
 
 -- what stands before the new text
-abbrev pub before_new : List ℕ → List ℕ → List ℕ
-before_new old new = before_old old ++ old ++ codes "new " ++ number_line (length new)
+abbrev pub before_new : Format → List ℕ → List ℕ → List ℕ
+before_new f old new = before_old f old ++ old ++ codes "new " ++ number_line (length new)
 
 -- what stands before the map
-abbrev pub before_map : List ℕ → List ℕ → List ℕ → List ℕ
-before_map old new map = before_new old new ++ new ++ codes "map " ++ number_line (length map)
+abbrev pub before_map : Format → List ℕ → List ℕ → List ℕ → List ℕ
+before_map f old new map = before_new f old new ++ new ++ codes "map " ++ number_line (length map)
 
--- the bytes of three texts
-abbrev pub framed : List ℕ → List ℕ → List ℕ → List ℕ
-framed old new map = before_map old new map ++ map ++ codes "end\n"
+-- the bytes of three texts in a format
+abbrev pub framed : Format → List ℕ → List ℕ → List ℕ → List ℕ
+framed f old new map = before_map f old new map ++ map ++ codes "end\n"
 
--- the bytes are those of three texts
+-- the bytes are those of three texts in one of the formats
 abbrev pub IsFraming : List ℕ → Type 0
-IsFraming bytes = (old : List ℕ) × ((new : List ℕ) × ((map : List ℕ) × (bytes ≡ framed old new map)))
+IsFraming bytes = (f : Format) × ((old : List ℕ) × ((new : List ℕ) × ((map : List ℕ) × (bytes ≡ framed f old new map))))
 
 -- the bytes are a prefix of a framing
 abbrev pub BeginsFraming : List ℕ → Type 0

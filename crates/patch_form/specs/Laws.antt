@@ -1,17 +1,18 @@
 -- What holds of all bytes.
 use Rattle.std.specs.Prelude.{◌≡◌, ℕ, ◌<◌, ◌^◌, ◌⊎◌, List}
 use Rattle.std.specs.Fmt.{decimal}
+use Rattle.patch_form.specs.declared.format.Format.{Format}
 use Rattle.patch_form.specs.Framing.{number_text, framed, IsFraming, IsCutShort, IsBadAt}
 
 -- bytes are a framing, or cut short, or bad at an offset
 abbrev pub EachIsAnswered : Type 0
 EachIsAnswered = (bytes : List ℕ) → IsFraming bytes ⊎ (IsCutShort bytes ⊎ ((at : ℕ) × IsBadAt at bytes))
 
--- a framing has one old text, one new text and one map
+-- a framing has one format, one old text, one new text and one map
 abbrev pub OneFraming : Type 0
 OneFraming =
-    (old new map old' new' map' : List ℕ) → framed old new map ≡ framed old' new' map'
-    → (old ≡ old') × (new ≡ new') × (map ≡ map')
+    (f f' : Format) (old new map old' new' map' : List ℕ) → framed f old new map ≡ framed f' old' new' map'
+    → (f ≡ f') × (old ≡ old') × (new ≡ new') × (map ≡ map')
 
 -- no framing is cut short
 abbrev pub NoneIsShort : Type 0

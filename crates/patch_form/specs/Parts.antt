@@ -3,7 +3,8 @@ use Rattle.std.specs.Prelude.{◌≡◌, ◌≢◌, ℕ, ◌+◌, ⊤, List, [],
 use Rattle.std.specs.Int.{IsInRange}
 use Rattle.patch_form.specs.declared.fault.FrameFault.{FrameFault}
 use Rattle.patch_form.specs.declared.fault.FrameFault.TheVariants.{Short, BadHead}
-use Rattle.patch_form.specs.Framing.{number_line}
+use Rattle.patch_form.specs.declared.format.Format.{Format}
+use Rattle.patch_form.specs.Framing.{digit, head, number_line}
 
 -- the bytes are a prefix of a word
 abbrev pub Begins : (List ℕ → Type 0) → List ℕ → Type 0
@@ -29,6 +30,14 @@ IsFaultOf W start bytes (BadHead at) = (i : ℕ) × (at ≡ start + i) × IsBad 
 -- the bytes are these
 abbrev pub Is : List ℕ → List ℕ → Type 0
 Is word bytes = bytes ≡ word
+
+-- the byte is the digit of a format
+abbrev pub IsDigit : List ℕ → Type 0
+IsDigit bytes = (f : Format) × (bytes ≡ digit f ∷ [])
+
+-- the bytes are the first line of a file
+abbrev pub IsHead : List ℕ → Type 0
+IsHead bytes = (f : Format) × (bytes ≡ head f)
 
 -- the bytes are the line of a number
 abbrev pub IsNumberLine : List ℕ → Type 0

@@ -2,6 +2,8 @@
 
 ghost use Rattle.std.specs.Prelude.{◌≡◌, ◌+◌, ◌<◌, ◌^◌, length};
 
+use crate::format::Format;
+
 /// A text of a file, and the offset at which it begins there.
 #[derive(Clone, Copy)]
 pub struct Part<'a> {
@@ -10,9 +12,10 @@ pub struct Part<'a> {
     pub text: &'a [u8],
 }
 
-/// The texts that a patch's file holds.
+/// The format of a patch's file, and the texts that it holds.
 #[derive(Clone, Copy)]
 pub struct Frame<'a> {
+    pub format: Format,
     /// The source of the old program.
     pub old: Part<'a>,
     /// The source of the new program.

@@ -7,8 +7,8 @@ pub fn each_text_is_answered()
     ensures { EachIsAnswered }
 {}
 
-/// Bytes are only one of these, and they have one old text, one new text and one map, or one
-/// offset.
+/// Bytes are only one of these, and they have one format, one old text, one new text and one map,
+/// or one offset.
 pub fn no_text_has_two_answers()
     ensures texts { OneFraming }
     ensures not_short { NoneIsShort }

@@ -7,6 +7,7 @@ ghost use Rattle.patch_form.specs.Parts.{IsPart, IsFaultOf};
 
 use crate::fault::FrameFault;
 use crate::frame::{Frame, Part};
+use crate::head::take_head;
 use crate::number::take_length;
 use crate::word::take_word;
 
@@ -36,20 +37,25 @@ fn take_part<'a>(bytes: &'a [u8], at: usize, word: &[u8]) -> Result<Part<'a>, Fr
 fn find_frame(bytes: &[u8]) -> Result<Frame<'_>, FrameFault>
     ensures { MatchResult result (IsFrame bytes.now) (IsFault bytes.now) }
 {
-    let at = take_word(bytes, 0, b"upstare-patch 1\n")?;
-    let old = take_part(bytes, at, b"old ")?;
+    let head = take_head(bytes)?;
+    let old = take_part(bytes, head.end, b"old ")?;
     let new = take_part(bytes, old.end(), b"new ")?;
     let map = take_part(bytes, new.end(), b"map ")?;
     let end = take_word(bytes, map.end(), b"end\n")?;
     if end < bytes.len() {
         return Err(FrameFault::BadHead(end));
     }
-    Ok(Frame { old, new, map })
+    Ok(Frame {
+        format: head.format,
+        old,
+        new,
+        map,
+    })
 }
 
-/// The texts of a patch file: `upstare-patch 1` and a newline, then `old L`, `new L` and `map L`,
-/// each with a newline and L bytes, then `end` and a newline. L is a decimal number without leading
-/// zeros, and nothing stands behind the last newline.
+/// The format and the texts of a patch file: `upstare-patch 1` or `upstare-patch 2` and a newline,
+/// then `old L`, `new L` and `map L`, each with a newline and L bytes, then `end` and a newline. L
+/// is a decimal number without leading zeros, and nothing stands behind the last newline.
 ///
 /// # Errors
 ///

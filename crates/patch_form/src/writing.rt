@@ -2,6 +2,7 @@
 
 ghost use Rattle.std.specs.Prelude.{◌≡◌, ◌++◌, IfOk, OnOk};
 ghost use Rattle.patch_form.specs.Framing.{number_line, framed};
+ghost use Rattle.patch_form.specs.declared.format.Format.TheVariants.{Two};
 
 use itoa::Buffer;
 use std::alloc::{AllocError, Global};
@@ -17,11 +18,11 @@ fn append_head(word: &[u8], len: usize, out: &mut Vec<u8>) -> Result<(), AllocEr
     Ok(())
 }
 
-/// The bytes of the patch file of three texts.
+/// The bytes of the patch file of three texts, in format 2.
 pub fn write_frame(alloc: Global, old: &[u8], new: &[u8], map: &[u8]) -> Result<Vec<u8>, AllocError>
-    ensures { IfOk result (λ bytes. bytes.items ≡ framed old.now new.now map.now) }
+    ensures { IfOk result (λ bytes. bytes.items ≡ framed Two old.now new.now map.now) }
 {
-    let mut out = Vec::from_slice(alloc, b"upstare-patch 1\n")?;
+    let mut out = Vec::from_slice(alloc, b"upstare-patch 2\n")?;
     append_head(b"old ", old.len(), &mut out)?;
     out.extend_from_slice(old)?;
     append_head(b"new ", new.len(), &mut out)?;
