@@ -9,7 +9,7 @@ use Rattle.clap.specs.declared.error.kind.ErrorKind.TheVariants.{OutOfMemory}
 use Rattle.clap.proofs.FaultLemmas.{leaf_fault}
 use Rattle.clap.proofs.TakesLemmas.{leaf_takes}
 use Rattle.command_line.specs.Bare.{IsBare}
-use Rattle.command_line.specs.Options.{check_app, load_app, patch_app, points_app, run_app, transform_app, found}
+use Rattle.command_line.specs.Options.{check_app, load_app, patch_app, points_app, run_app, transform_app, upgrade_app, found}
 use Rattle.command_line.proofs.FaultFree.{level}
 
 pub check_is_bare : IsBare check_app
@@ -26,6 +26,9 @@ run_is_bare = record { simple = refl; free = refl; subs = refl; defaults = refl;
 
 pub patch_is_bare : IsBare patch_app
 patch_is_bare = record { simple = refl; free = refl; subs = refl; defaults = refl; rules = refl; helps = refl; enters = refl }
+
+pub upgrade_is_bare : IsBare upgrade_app
+upgrade_is_bare = record { simple = refl; free = refl; subs = refl; defaults = refl; rules = refl; helps = refl; enters = refl }
 
 pub load_is_bare : IsBare load_app
 load_is_bare = record { simple = refl; free = refl; subs = refl; defaults = refl; rules = refl; helps = refl; enters = refl }

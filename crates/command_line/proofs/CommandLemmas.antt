@@ -5,8 +5,8 @@ use Rattle.std.specs.Option.{option_map_or}
 use Rattle.std.specs.Str.{bytes_eq}
 use Rattle.std.proofs.lemmas.Slice.Eq.{bytes_eq-Decides}
 use Rattle.clap.specs.Words.{IsUnsignedIn, Row, Text, first_of}
-use Rattle.command_line.specs.Command.{Command, Usage, Patch, PatchWords, RunWords, command_of, command_on, file_in, is_half, load_in, load_of, load_on, name_in, number_in, patch_of, patch_words, run_in, run_of, run_on, run_words, update_of}
-use Rattle.command_line.specs.Options.{default_steps, found, load_app, max_seed, max_steps, patch_app, run_app}
+use Rattle.command_line.specs.Command.{Command, Usage, Patch, PatchWords, RunWords, Upgrade, UpgradeWords, upgrade_of, upgrade_words, command_of, command_on, file_in, is_half, load_in, load_of, load_on, name_in, number_in, patch_of, patch_words, run_in, run_of, run_on, run_words, update_of}
+use Rattle.command_line.specs.Options.{default_steps, found, load_app, max_seed, max_steps, patch_app, run_app, upgrade_app}
 
 -- a run of the parts that were found is what the words of a run ask for
 pub run_given : (words : List Text) (rows : List Row) (half : Bool) (run : RunWords) → Some rows ≡ found run_app words
@@ -25,6 +25,13 @@ pub patch_given : (words : List Text) (rows : List Row) (patch : PatchWords) →
 patch_given words rows patch is old new mapping output =
     let same : patch ≡ patch_words rows = λ i. record { old = old i; new = new i; map = mapping i; output = output i } in
     ap Patch same ∙ ap (λ o. option_map_or (λ rows. Patch (patch_words rows)) o Usage) is
+
+-- an upgrade of the files that were found is what the words of an upgrade ask for
+pub upgrade_given : (words : List Text) (rows : List Row) (upgrade : UpgradeWords) → Some rows ≡ found upgrade_app words
+    → upgrade.file ≡ file_in rows → upgrade.output ≡ name_in (codes "output") rows → Upgrade upgrade ≡ upgrade_of words
+upgrade_given words rows upgrade is file output =
+    let same : upgrade ≡ upgrade_words rows = λ i. record { file = file i; output = output i } in
+    ap Upgrade same ∙ ap (λ o. option_map_or (λ rows. Upgrade (upgrade_words rows)) o Usage) is
 
 -- a number of steps before an update is a number
 pub at_is_read : (o : Option Text) → IfSome o (IsUnsignedIn 0 max_steps) → IfSome o (IsUnsignedIn 0 max_seed)
@@ -45,10 +52,10 @@ differs a b other = go (bytes_eq a b) refl
 
 -- words that begin with no command's name are a usage fault
 pub no_command : {X : Type 0} (text : X → Text) (words : List X) (first : X) (name : Text) → Some first ≡ slice_get words 0 → name ≡ text first
-    → (name ≡ codes "check" → ⊥) → (name ≡ codes "points" → ⊥) → (name ≡ codes "transform" → ⊥) → (name ≡ codes "run" → ⊥) → (name ≡ codes "patch" → ⊥) → (name ≡ codes "load" → ⊥)
+    → (name ≡ codes "check" → ⊥) → (name ≡ codes "points" → ⊥) → (name ≡ codes "transform" → ⊥) → (name ≡ codes "run" → ⊥) → (name ≡ codes "patch" → ⊥) → (name ≡ codes "upgrade" → ⊥) → (name ≡ codes "load" → ⊥)
     → Usage ≡ command_of (map text words)
-no_command text [] first name e is check points transform run patch load = cc
-no_command text (x ∷ xs) first name e is check points transform run patch load =
+no_command text [] first name e is check points transform run patch upgrade load = cc
+no_command text (x ∷ xs) first name e is check points transform run patch upgrade load =
     let same : name ≡ text x = is ∙ ap (λ o. text (unwrap_or o first)) e in
     let here : Usage ≡ command_on name (map text (x ∷ xs)) = rw (
       differs name (codes "check") check,
@@ -56,6 +63,7 @@ no_command text (x ∷ xs) first name e is check points transform run patch load
       differs name (codes "transform") transform,
       differs name (codes "run") run,
       differs name (codes "patch") patch,
+      differs name (codes "upgrade") upgrade,
       differs name (codes "load") load,
     ) refl in
     here ∙ ap (λ (n : Text). command_on n (map text (x ∷ xs))) same

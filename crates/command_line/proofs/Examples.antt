@@ -1,7 +1,7 @@
 -- Words that are written out, and what they ask for.
 use Rattle.std.proofs.Common.{◌≡◌, refl, ℕ, List, [], ◌∷◌, Some, None, codes}
 use Rattle.clap.proofs.OnLiterals.{clap_on_literals}
-use Rattle.command_line.specs.Command.{Usage, Load, Run, RunWords, Transform, command_of}
+use Rattle.command_line.specs.Command.{Usage, Load, Run, RunWords, Transform, Upgrade, command_of}
 
 abbrev plain : List ℕ → RunWords
 plain name = record { file = name; update = None; input = None; seed = None; schedule = None; steps = 1000000; history = None }
@@ -82,6 +82,14 @@ no_short_help = refl
 transform_file : command_of (codes "transform" ∷ a_c ∷ []) ≡ Transform a_c
 unfolding clap_on_literals
 transform_file = refl
+
+upgrade_whole : command_of (codes "upgrade" ∷ codes "p" ∷ codes "-o" ∷ codes "q" ∷ []) ≡ Upgrade (record { file = codes "p"; output = codes "q" })
+unfolding clap_on_literals
+upgrade_whole = refl
+
+upgrade_without_output : command_of (codes "upgrade" ∷ codes "p" ∷ []) ≡ Usage
+unfolding clap_on_literals
+upgrade_without_output = refl
 
 load_least : command_of (codes "load" ∷ codes "1" ∷ []) ≡ Load 1
 unfolding clap_on_literals

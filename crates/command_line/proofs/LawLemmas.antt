@@ -10,9 +10,9 @@ use Rattle.clap.specs.Walk.{Rule, action_of, nothing_held, walk}
 use Rattle.clap.specs.declared.builder.action.ArgAction.TheVariants.{Set}
 use Rattle.clap.specs.declared.builder.value_parser.ValueParser.TheVariants as parser
 use Rattle.clap.proofs.ValueTestLemmas.{accepts-Accepts}
-use Rattle.command_line.specs.Command.{Command, Usage, Check, Points, Transform, Run, Patch, Load, command_of, check_of, file_in, load_in, load_of, patch_of, patch_words, points_of, transform_of, is_half, run_in, run_of, run_words, number_in, number_of, update_of}
+use Rattle.command_line.specs.Command.{Command, Usage, Check, Points, Transform, Run, Patch, Upgrade, Load, command_of, check_of, file_in, load_in, load_of, patch_of, patch_words, points_of, transform_of, is_half, run_in, run_of, run_words, number_in, number_of, update_of, upgrade_of, upgrade_words}
 use Rattle.command_line.specs.Laws.{IsFair, IsFairCommand}
-use Rattle.command_line.specs.Options.{check_app, default_steps, found, load_app, max_load, max_seed, max_steps, patch_app, points_app, run_app, transform_app}
+use Rattle.command_line.specs.Options.{check_app, default_steps, found, load_app, max_load, max_seed, max_steps, patch_app, points_app, run_app, transform_app, upgrade_app}
 use Rattle.command_line.specs.Options as options
 use Rattle.command_line.proofs.NumbersPass as pass
 
@@ -138,6 +138,9 @@ run_of_is_fair words = on_found run_in (found run_app words) (λ rows is. run_in
 pub patch_of_is_fair : (words : List Text) → IsFairCommand (patch_of words)
 patch_of_is_fair words = on_found (λ rows. Patch (patch_words rows)) (found patch_app words) (λ rows is. tt)
 
+pub upgrade_of_is_fair : (words : List Text) → IsFairCommand (upgrade_of words)
+upgrade_of_is_fair words = on_found (λ rows. Upgrade (upgrade_words rows)) (found upgrade_app words) (λ rows is. tt)
+
 pub load_of_is_fair : (words : List Text) → IsFairCommand (load_of words)
 load_of_is_fair words = on_found load_in (found load_app words) (λ rows is. load_is_fair (first_of (codes "number") rows) (load_lies words rows is))
 
@@ -154,7 +157,8 @@ command_is_fair (name ∷ rest) =
     (either_is_fair (bytes_eq name (codes "transform")) _ _ (transform_of_is_fair words)
     (either_is_fair (bytes_eq name (codes "run")) _ _ (run_of_is_fair words)
     (either_is_fair (bytes_eq name (codes "patch")) _ _ (patch_of_is_fair words)
-    (either_is_fair (bytes_eq name (codes "load")) _ Usage (load_of_is_fair words) tt)))))
+    (either_is_fair (bytes_eq name (codes "upgrade")) _ _ (upgrade_of_is_fair words)
+    (either_is_fair (bytes_eq name (codes "load")) _ Usage (load_of_is_fair words) tt))))))
 
 -- a command that is a fair one is fair
 pub same_is_fair : (c d : Command) → IsFairCommand d → c ≡ d → IsFairCommand c

@@ -39,6 +39,13 @@ pub record PatchWords : Type 0 where
   -- the name of the file that the patch goes to
   pub output : Text
 
+-- The files of a patch whose format is made the newest one.
+pub record UpgradeWords : Type 0 where
+  -- the name of the file with the patch
+  pub file : Text
+  -- the name of the file that the patch goes to
+  pub output : Text
+
 -- What the words ask for. Each command has the names of its files, and `Load` the size of its texts.
 pub data Command : Type 0 where
   Usage : Command
@@ -47,6 +54,7 @@ pub data Command : Type 0 where
   Transform : Text → Command
   Run : RunWords → Command
   Patch : PatchWords → Command
+  Upgrade : UpgradeWords → Command
   Load : ℕ → Command
 
 -- the name of a file that has to be named
@@ -129,6 +137,15 @@ abbrev pub patch_of : List Text → Command
 patch_of words =
     option_map_or (λ rows. Patch (patch_words rows)) (options.found options.patch_app words) Usage
 
+-- the files of a patch that is upgraded, by what was found for its arguments
+abbrev pub upgrade_words : List Row → UpgradeWords
+upgrade_words rows = record { file = file_in rows; output = name_in (codes "output") rows }
+
+-- what `upgrade` asks for
+abbrev pub upgrade_of : List Text → Command
+upgrade_of words =
+    option_map_or (λ rows. Upgrade (upgrade_words rows)) (options.found options.upgrade_app words) Usage
+
 -- a load of this size; no number is none
 abbrev pub load_on : Option ℕ → Command
 load_on number = option_map_or Load number Usage
@@ -150,7 +167,8 @@ command_on name words =
     else (if bytes_eq name (codes "transform") then transform_of words
     else (if bytes_eq name (codes "run") then run_of words
     else (if bytes_eq name (codes "patch") then patch_of words
-    else (if bytes_eq name (codes "load") then load_of words else Usage)))))
+    else (if bytes_eq name (codes "upgrade") then upgrade_of words
+    else (if bytes_eq name (codes "load") then load_of words else Usage))))))
 
 -- the command that the words are; the first of them is its name
 abbrev pub command_of : List Text → Command

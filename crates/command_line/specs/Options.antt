@@ -115,6 +115,10 @@ output = record (new_rule (codes "output")) { short = Some 111; required = true 
 abbrev pub patch_app : App
 patch_app = with_rule (with_rule (with_rule (with_rule (bare (codes "patch")) old) new) mapping) output
 
+-- the words of `upgrade`
+abbrev pub upgrade_app : App
+upgrade_app = with_rule (file_app (codes "upgrade")) output
+
 -- how large the texts of a load are, a number that has to be given
 abbrev pub number : Rule
 number = record (needed (codes "number")) { parser = Some (parser.Unsigned 1 max_load) }

@@ -3,10 +3,11 @@ use Rattle.std.specs.Prelude.{ℕ, List, Option, option_map}
 use Rattle.std.specs.Borrow.{Bor}
 use Rattle.command_line.specs.Command as c
 use Rattle.command_line.specs.declared.command.Command.{Command}
-use Rattle.command_line.specs.declared.command.Command.TheVariants.{Usage, Check, Points, Transform, Run, Patch, Load}
+use Rattle.command_line.specs.declared.command.Command.TheVariants.{Usage, Check, Points, Transform, Run, Patch, Upgrade, Load}
 use Rattle.command_line.specs.declared.command.RunWords.{RunWords}
 use Rattle.command_line.specs.declared.command.UpdateWords.{UpdateWords}
 use Rattle.command_line.specs.declared.command.PatchWords.{PatchWords}
+use Rattle.command_line.specs.declared.command.UpgradeWords.{UpgradeWords}
 
 -- a text that need not be there
 abbrev pub text : Option (Bor (List ℕ)) → Option (List ℕ)
@@ -32,6 +33,10 @@ run r = record {
 abbrev pub patch : PatchWords → c.PatchWords
 patch p = record { old = p.old.now; new = p.new.now; map = p.map.now; output = p.output.now }
 
+-- the files of a patch that is upgraded
+abbrev pub upgrade : UpgradeWords → c.UpgradeWords
+upgrade u = record { file = u.file.now; output = u.output.now }
+
 -- a command
 abbrev pub command : Command → c.Command
 command Usage = c.Usage
@@ -40,4 +45,5 @@ command (Points name) = c.Points name.now
 command (Transform name) = c.Transform name.now
 command (Run r) = c.Run (run r)
 command (Patch p) = c.Patch (patch p)
+command (Upgrade u) = c.Upgrade (upgrade u)
 command (Load n) = c.Load n

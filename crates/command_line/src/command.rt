@@ -8,6 +8,7 @@ ghost use Rattle.command_line.specs.Views as view;
 use crate::matches::{file_in, found_in, name_in, number_in, small_number_in, text_in};
 use crate::options::{
     check_command, load_command, patch_command, points_command, run_command, transform_command,
+    upgrade_command,
 };
 use std::alloc::{AllocError, Global};
 
@@ -55,6 +56,15 @@ pub struct PatchWords<'a> {
     pub output: &'a str,
 }
 
+/// The files of a patch whose format is made the newest one.
+#[derive(Clone, Copy, PartialEq, Eq)]
+pub struct UpgradeWords<'a> {
+    /// The name of the file with the patch.
+    pub file: &'a str,
+    /// The name of the file that the patch goes to.
+    pub output: &'a str,
+}
+
 /// What the words ask for. Each command has the names of its files, and `Load` the size of its
 /// texts.
 #[derive(Clone, Copy, PartialEq, Eq)]
@@ -71,6 +81,8 @@ pub enum Command<'a> {
     Run(RunWords<'a>),
     /// A patch from one program to another.
     Patch(PatchWords<'a>),
+    /// The same patch in the newest format.
+    Upgrade(UpgradeWords<'a>),
     /// Two programs and a mapping between them, made as large as this number from 1 to 1000 says.
     Load(u32),
 }
@@ -175,6 +187,19 @@ fn patch_in<'a>(alloc: Global, words: &'a [String]) -> Result<Command<'a>, Alloc
     }))
 }
 
+fn upgrade_in<'a>(alloc: Global, words: &'a [String]) -> Result<Command<'a>, AllocError>
+    ensures { IfOk result (λ c.
+        view.command c ≡ spec.upgrade_of (map string_bytes words.entry.now)) }
+{
+    let Some(matches) = found_in(upgrade_command(alloc)?, words)? else {
+        return Ok(Command::Usage);
+    };
+    Ok(Command::Upgrade(UpgradeWords {
+        file: file_in(&matches),
+        output: name_in(&matches, "output"),
+    }))
+}
+
 /// A load of this size; no number is none.
 fn load_on<'a>(number: Option<u32>) -> Command<'a>
     ensures { view.command result ≡ spec.load_on number }
@@ -210,6 +235,7 @@ pub fn command_of<'a>(alloc: Global, words: &'a [String]) -> Result<Command<'a>,
         "transform" => transform_in(alloc, words),
         "run" => run_in(alloc, words),
         "patch" => patch_in(alloc, words),
+        "upgrade" => upgrade_in(alloc, words),
         "load" => load_in(alloc, words),
         _ => Ok(Command::Usage),
     }

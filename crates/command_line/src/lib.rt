@@ -13,4 +13,4 @@ pub mod laws;
 mod matches;
 mod options;
 
-pub use command::{Command, PatchWords, RunWords, UpdateWords, command_of};
+pub use command::{Command, PatchWords, RunWords, UpdateWords, UpgradeWords, command_of};

@@ -177,6 +177,13 @@ pub(crate) fn patch_command<'a>(alloc: Global) -> Result<Command<'a>, AllocError
         .arg(output(alloc))
 }
 
+/// `upgrade FILE -o OUT`
+pub(crate) fn upgrade_command<'a>(alloc: Global) -> Result<Command<'a>, AllocError>
+    ensures { IfOk result (λ c. app_of c ≡ spec.upgrade_app) }
+{
+    file_command(alloc, "upgrade")?.arg(output(alloc))
+}
+
 /// `load N`
 pub(crate) fn load_command<'a>(alloc: Global) -> Result<Command<'a>, AllocError>
     ensures { IfOk result (λ c. app_of c ≡ spec.load_app) }

@@ -1,3 +1,4 @@
+pub mod Formats
 pub mod Whole
 pub mod Refused
 pub mod Refusal

@@ -4,8 +4,11 @@ use Rattle.c_grammar.specs.Mapping.{IsMappingOf}
 use Rattle.c_tree.specs.declared.mapping.Mapping.{Mapping}
 use Rattle.c_tree.specs.declared.mapping.Patch.{Patch}
 use Rattle.c_tree.specs.Canonical.{canonical_entries, canonical_text}
+use Rattle.patch_form.specs.declared.format.Format.{Format}
+use Rattle.patch_form.specs.declared.format.Format.TheVariants.{Two}
 use Rattle.patch_form.specs.Framing.{framed}
 use Rattle.c_source.specs.Source.{IsAccepted}
+use Rattle.patch_file.specs.Formats.{CanBeIn}
 
 -- the most bytes of a patch's file
 abbrev pub max_file : ℕ
@@ -15,9 +18,13 @@ max_file = 4194304
 abbrev pub map_of : Patch → List ℕ
 map_of p = canonical_text p.old p.new p.entries
 
--- the bytes of a patch's file: its two sources, and the text of its entries
+-- the bytes of a patch's file in a format: its two sources, and the text of its entries
+abbrev pub file_in : Format → Patch → List ℕ
+file_in f p = framed f p.old_text p.new_text (map_of p)
+
+-- the bytes of a patch's file, which is in the newest format
 abbrev pub file_of : Patch → List ℕ
-file_of p = framed p.old_text p.new_text (map_of p)
+file_of p = file_in Two p
 
 -- A patch is whole: its programs are those of its sources, its entries are the canonical ones of a mapping that some text is,
 -- and its file has at most so many bytes.
@@ -30,6 +37,6 @@ pub record IsWhole (p : Patch) : Type 0 where
   pub entries : canonical_entries p.old p.new (map (λ x. x.it) mapping.entries) ≡ Ok p.entries
   pub small : length (file_of p) ≤ max_file
 
--- The bytes are the file of a whole patch.
+-- The bytes are the file of a whole patch in a format that it can be written in.
 abbrev pub IsFileOf : List ℕ → Patch → Type 0
-IsFileOf bytes p = IsWhole p × (bytes ≡ file_of p)
+IsFileOf bytes p = IsWhole p × ((f : Format) × CanBeIn f p × (bytes ≡ file_in f p))

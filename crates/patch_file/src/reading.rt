@@ -1,12 +1,12 @@
 //! From bytes to a patch.
 
 ghost use Rattle.std.specs.Prelude.{◌≡◌, ◌≤◌, IfOk, MatchResult, length};
-ghost use Rattle.c_grammar.specs.Mapping.{IsMappingOf};
 ghost use Rattle.c_places.specs.Limit.{KeepsLimit};
 ghost use Rattle.c_tree.specs.MapForm.{HasMapForm};
 ghost use Rattle.c_tree.specs.declared.lifted.Lifted.{Lifted};
+ghost use Rattle.patch_file.specs.Formats.{IsMappingAs};
 ghost use Rattle.patch_file.specs.Parts.{AreRead, IsMadeOf, IsPatchOf, IsPlaced, Refuses};
-ghost use Rattle.patch_file.specs.Refusal.{IsRefusal};
+ghost use Rattle.patch_file.specs.Refusal.{IsMapRefusal, IsRefusal};
 ghost use Rattle.patch_file.specs.Whole.{IsFileOf};
 ghost use Rattle.c_source.specs.Source.{IsAccepted};
 
@@ -16,9 +16,9 @@ use crate::refused::{
 };
 use c_source::accepted;
 use c_tree::{FileCause, Lifted, Mapping, Text};
-use map_lang::read_map;
+use map_lang::{MapRefused, first_mappings_are_mappings, read_first_map, read_map};
 use map_text::mapping_text;
-use patch_form::{Frame, FrameFault, read_frame};
+use patch_form::{Format, Frame, FrameFault, read_frame};
 use patch_maker::{SoundPatch, make_patch};
 use std::alloc::{AllocError, Global};
 
@@ -49,16 +49,28 @@ fn new_program(alloc: Global, frame: &Frame<'_>) -> Result<Lifted, FileRefused>
     }
 }
 
+/// The mapping that a text is in a format.
+fn mapping_as(alloc: Global, format: Format, text: &[u8]) -> Result<Mapping, MapRefused>
+    requires { length text.now ≤ 4194304 }
+    ensures read { MatchResult result (IsMappingAs format text.now) (IsMapRefusal format text.now) }
+    ensures form { IfOk result HasMapForm }
+{
+    match format {
+        Format::One => read_first_map(alloc, text),
+        Format::Two => read_map(alloc, text),
+    }
+}
+
 /// The mapping, where both sources are accepted.
 fn mapping_in(alloc: Global, frame: &Frame<'_>) -> Result<Mapping, FileRefused>
     requires placed { IsPlaced frame.now }
     requires small { length frame.now.map.text.now ≤ 4194304 }
-    ensures read { MatchResult result (IsMappingOf frame.now.map.text.now)
+    ensures read { MatchResult result (IsMappingAs frame.now.format frame.now.map.text.now)
         (λ r. (p q : Lifted) → IsAccepted frame.now.old.text.now p
         → IsAccepted frame.now.new.text.now q → Refuses frame.now r) }
     ensures form { IfOk result HasMapForm }
 {
-    match read_map(alloc, frame.map.text) {
+    match mapping_as(alloc, frame.format, frame.map.text) {
         Ok(mapping) => Ok(mapping),
         Err(why) => Err(map_refused(frame.map.at, why)),
     }
@@ -130,7 +142,7 @@ fn texts_read(alloc: Global, frame: &Frame<'_>) -> Result<SoundPatch, FileRefuse
     canonical_only(alloc, frame, patch)
 }
 
-/// The patch whose file the bytes are.
+/// The patch whose file the bytes are, in one of the formats.
 ///
 /// # Errors
 ///
@@ -140,6 +152,7 @@ fn texts_read(alloc: Global, frame: &Frame<'_>) -> Result<SoundPatch, FileRefuse
 pub fn read_patch(alloc: Global, bytes: &[u8]) -> Result<SoundPatch, FileRefused>
     ensures { MatchResult result (IsFileOf bytes.now) (IsRefusal bytes.now) }
 {
+    first_mappings_are_mappings();
     if bytes.len() > MAX_FILE {
         return Err(FileRefused::At(MAX_FILE as u32, FileCause::TooLong));
     }

@@ -9,7 +9,8 @@ use patch_form::write_frame;
 use patch_maker::SoundPatch;
 use std::alloc::{AllocError, Global};
 
-/// The bytes of a patch's file: both sources, and the canonical text of the entries.
+/// The bytes of a patch's file, in the newest format: both sources, and the canonical text of the
+/// entries.
 pub fn write_patch(alloc: Global, patch: &SoundPatch) -> Result<Vec<u8>, AllocError>
     ensures { IfOk result (λ bytes. bytes.items ≡ file_of patch.now) }
 {

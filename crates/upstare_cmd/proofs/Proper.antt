@@ -11,13 +11,13 @@ use Rattle.c_tree.specs.declared.run.Settings.{Settings}
 use Rattle.c_tree.specs.Canonical.{canonical_text}
 use Rattle.load_texts.specs.Texts as load
 use Rattle.patch_form.specs.Framing.{framed}
-use Rattle.command_line.specs.Command.{Command, Usage, Check, Points, Transform, Run, RunWords, UpdateWords, Patch, PatchWords, Load}
+use Rattle.command_line.specs.Command.{Command, Usage, Check, Points, Transform, Run, RunWords, UpdateWords, Patch, PatchWords, Upgrade, UpgradeWords, Load}
 use Rattle.answers.specs.Answer.{Answer, Piece, ToOut, ToFile}
 use Rattle.upstare_cmd.specs.Asked.{TextNames, load_names, named, names_of, outputs, run_files, update_files, wanted}
 use Rattle.answers.specs.Wanted.{Wanted, input_file, map_file, patch_file, schedule_file, source_file}
 use Rattle.upstare_cmd.specs.Causes.{IsProper, is_of_texts, is_refusal}
 use Rattle.answers.specs.Writes.{WritesOnly}
-use Rattle.upstare_cmd.specs.Meaning.{Loads, Means, RunMeans, RunTexts, SourceMeans, Tells, TextsMean, load_patch, load_settings, not_accepted, printed, old_refused, new_refused, mapping_refused, entry_unsound, patched, source_refused, patch_refused, patch_differs, schedule_refused, ended}
+use Rattle.upstare_cmd.specs.Meaning.{Loads, Means, RunMeans, RunTexts, SourceMeans, Tells, TextsMean, UpgradeMeans, unread, upgraded, load_patch, load_settings, not_accepted, printed, old_refused, new_refused, mapping_refused, entry_unsound, patched, source_refused, patch_refused, patch_differs, schedule_refused, ended}
 use Rattle.upstare_cmd.specs.Replies.{kept, loaded, patch_written, prints, put_patch, ran}
 use Rattle.answers.specs.Refusals.{patch_too_long, says, too_long}
 use Rattle.answers.specs.Status.{code}
@@ -81,6 +81,13 @@ put_proper w patch = go (nat_le (length patch) 4194304)
     go true = done_proper (Patch w) _ [] 0 (λ e. omega arith) (λ e. omega arith) (λ e. omega arith) (λ e. omega arith) (λ e. cc) (inl refl, tt)
     go false = map_refused_proper (Patch w) _
 
+-- what is meant of a patch that is upgraded
+upgrade_proper : (w : UpgradeWords) (bytes : List ℕ) (a : Answer) → UpgradeMeans w bytes a → IsProper (Upgrade w) a
+upgrade_proper w bytes a (unread at why is meant) = subst (IsProper (Upgrade w)) (sym meant) (map_refused_proper (Upgrade w) _)
+upgrade_proper w bytes a (upgraded x is meant) =
+    subst (IsProper (Upgrade w)) (sym meant)
+    (done_proper (Upgrade w) _ [] 0 (λ e. omega arith) (λ e. omega arith) (λ e. omega arith) (λ e. omega arith) (λ e. cc) (inl refl, tt))
+
 loaded_proper : (n : ℕ) (output : List ℕ) (steps : ℕ) (update : List ℕ) (e : End) → IsProper (Load n) (loaded n output steps update e)
 loaded_proper n output steps update (end.Finished k) =
     done_proper (Load n) _ [] 0 (λ e. omega arith) (λ e. omega arith) (λ e. omega arith) (λ e. omega arith) (λ e. cc) tt
@@ -124,6 +131,9 @@ proper (Patch w) (old ∷ new ∷ mapping ∷ []) a meant =
     texts_proper (Patch w) (names_of w) old new mapping _ a
     (λ p q entries is. subst (IsProper (Patch w)) (sym is) (put_proper w (framed old new (canonical_text p q entries)))) meant
 proper (Patch w) (x ∷ y ∷ z ∷ u ∷ rest) a meant = absurd meant
+proper (Upgrade w) [] a meant = absurd meant
+proper (Upgrade w) (bytes ∷ []) a meant = upgrade_proper w bytes a meant
+proper (Upgrade w) (x ∷ y ∷ rest) a meant = absurd meant
 proper (Load n) [] a meant =
     texts_proper (Load n) load_names (load.old_source n) (load.new_source n) (load.mapping n) _ a (λ p q entries is. loads_proper n (load_settings n (load_patch n p q entries)) a is) meant
 proper (Load n) (x ∷ rest) a meant = absurd meant
@@ -166,4 +176,5 @@ all_proper (Points name) = (source_file_proper (Points name) name, tt)
 all_proper (Transform name) = (source_file_proper (Transform name) name, tt)
 all_proper (Run w) = (source_file_proper (Run w) w.file, update_files_proper (Run w) w.update (run_files w) (run_files_proper (Run w) w.input w.schedule))
 all_proper (Patch w) = (source_file_proper (Patch w) w.old, (source_file_proper (Patch w) w.new, (map_file_proper (Patch w) w.map, tt)))
+all_proper (Upgrade w) = (patch_file_proper (Upgrade w) w.file, tt)
 all_proper (Load n) = tt

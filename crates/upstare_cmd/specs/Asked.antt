@@ -1,6 +1,6 @@
 -- What a command asks for: the files that it reads, and those that it may write.
 use Rattle.std.specs.Prelude.{ℕ, List, [], ◌∷◌, ◌++◌, Option, Some, None, option_to_list, codes}
-use Rattle.command_line.specs.Command.{Command, Usage, Check, Points, Transform, Run, RunWords, UpdateWords, Patch, PatchWords, Load}
+use Rattle.command_line.specs.Command.{Command, Usage, Check, Points, Transform, Run, RunWords, UpdateWords, Patch, PatchWords, Upgrade, Load}
 use Rattle.answers.specs.Wanted.{Wanted, input_file, map_file, patch_file, schedule_file, source_file}
 
 -- a file, where its name is given
@@ -25,12 +25,14 @@ wanted (Points name) = source_file name ∷ []
 wanted (Transform name) = source_file name ∷ []
 wanted (Run words) = source_file words.file ∷ update_files words.update ++ run_files words
 wanted (Patch words) = source_file words.old ∷ source_file words.new ∷ map_file words.map ∷ []
+wanted (Upgrade words) = patch_file words.file ∷ []
 wanted (Load n) = []
 
 -- The names that a command may write.
 abbrev pub outputs : Command → List (List ℕ)
 outputs (Run words) = option_to_list words.history
 outputs (Patch words) = words.output ∷ []
+outputs (Upgrade words) = words.output ∷ []
 outputs _ = []
 
 -- The names by which a line tells of an old source, a new one and a mapping.

@@ -20,13 +20,13 @@ use Rattle.c_tree.specs.Points.{points}
 use Rattle.c_tree.specs.Run.{Core, first, is_short, over, run}
 use Rattle.c_grammar.specs.Mapping.{IsMappingOf, IsMapFault}
 use Rattle.c_source.specs.Source.{IsAccepted, IsRefused}
-use Rattle.command_line.specs.Command.{Command, Usage, Check, Points, Transform, Run, RunWords, UpdateWords, Patch, PatchWords, Load}
+use Rattle.command_line.specs.Command.{Command, Usage, Check, Points, Transform, Run, RunWords, UpdateWords, Patch, PatchWords, Upgrade, UpgradeWords, Load}
 use Rattle.command_line.specs.Options as options
 use Rattle.frame_transform.specs.TargetText.{target_text}
 use Rattle.history.specs.Listing.{IsListing}
 use Rattle.load_texts.specs.Texts as load
 use Rattle.patch_file.specs.Refused.{IsFileRefused, IsFirstDifference}
-use Rattle.patch_file.specs.Whole.{IsFileOf}
+use Rattle.patch_file.specs.Whole.{IsFileOf, file_of}
 use Rattle.patch_form.specs.Framing.{framed}
 use Rattle.world_core.specs.History.{core}
 use Rattle.answers.specs.Answer.{Answer}
@@ -60,6 +60,11 @@ pub data TextsMean (names : TextNames) (old new mapping : List ℕ) (Says : Lift
 abbrev pub PatchMeans : PatchWords → List ℕ → List ℕ → List ℕ → Answer → Type 0
 PatchMeans words old new mapping a =
     TextsMean (names_of words) old new mapping (λ p q entries x. x ≡ reply.put_patch words.output (framed old new (canonical_text p q entries))) a
+
+-- What a command means that puts a patch's file in the newest format: the file is refused, or the same patch is put.
+pub data UpgradeMeans (words : UpgradeWords) (bytes : List ℕ) (a : Answer) : Type 0 where
+  unread : (at : ℕ) (why : FileCause) → IsFileRefused bytes at why → a ≡ reply.patch_refused words.file at why → UpgradeMeans words bytes a
+  upgraded : (x : made.Patch) → IsFileOf bytes x → a ≡ reply.patch_written words.output (file_of x) → UpgradeMeans words bytes a
 
 -- The run of these events, from the start to its end: what it printed, how many Steps it made, what came of its update, and its
 -- end.
@@ -177,5 +182,6 @@ Means (Points name) (source ∷ []) a = SourceMeans name source points a
 Means (Transform name) (source ∷ []) a = SourceMeans name source target_text a
 Means (Run words) texts a = (t : RunTexts) × AreTextsOf words texts t × RunMeans words t a
 Means (Patch words) (old ∷ new ∷ mapping ∷ []) a = PatchMeans words old new mapping a
+Means (Upgrade words) (bytes ∷ []) a = UpgradeMeans words bytes a
 Means (Load n) [] a = LoadMeans n a
 Means _ _ a = ⊥

@@ -21,3 +21,8 @@ pub returns-in-Transform-len1 : goal.returns-in-Transform-len1
 returns-in-Transform-len1 c =
     means_one _ _ c.args.texts.now c.source-item-then-this-lt2-3.result _ c.as_bytes-in-Transform-len1.result.now _ (ap words_view.command c.in-Transform-len1.is-0) (omega arith)
     c.source-item-then-this-lt2-3.is c.as_bytes-in-Transform-len1.ensures (of_source _ _ target_text _ c.transform_meant.ensures)
+
+pub returns-in-Upgrade-len1 : goal.returns-in-Upgrade-len1
+returns-in-Upgrade-len1 c =
+    means_one _ _ c.args.texts.now c.bytes-item.result _ c.as_bytes-in-Upgrade-len1.result.now _ (ap words_view.command c.in-Upgrade-len1.is-0) (omega arith)
+    c.bytes-item.is c.as_bytes-in-Upgrade-len1.ensures c.upgrade_meant.ensures
