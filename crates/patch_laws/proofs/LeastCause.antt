@@ -335,7 +335,7 @@ links_known k name g q p next s z a b c =
   where
     is_true : (t : Bool) → not t ≡ false → t ≡ true
     is_true true e = refl
-    is_true false e = absurd (both_ways true refl e)
+    is_true false e = absurd (both_ways true e refl)
 
 misses_known : (k : Link) (name : List ℕ) (f g i : ℕ) (from : Pt) → old_function k name ≡ Some f → new_function k name ≡ Some g → place_of (function_of k.old f) from ≡ Some i →
     (p : Part) (s : Site) → StandsAt k g p s → exactly_one (is_call from) (is_call p.point) ≡ false → misses_callee k name from p ≡ callee_differs k (site f i) s

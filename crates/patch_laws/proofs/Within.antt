@@ -1,5 +1,5 @@
 -- The matches that the entries of a mapping make lie inside the new program.
-use Rattle.std.proofs.Common.{◌≡◌, ℕ, zero, suc, Bool, true, false, not, List, [], ◌∷◌, ◌++◌, Option, Some, None, refl, sym, ◌∙◌, ap, subst, length}
+use Rattle.std.proofs.Common.{◌≡◌, ℕ, zero, suc, Bool, true, false, not, List, [], ◌∷◌, ◌++◌, Option, Some, None, refl, sym, ◌∙◌, ap, length}
 use Rattle.std.specs.Prelude.{map, find, ◌==◌, ◌&&◌, ◌||◌, cond, nat_lt, if◌then◌else◌}
 use Rattle.std.specs.List.{list_any, list_all, enumerate_from}
 use Rattle.std.proofs.lemmas.Option.{none-some}
@@ -62,10 +62,13 @@ all_below old new kind earlier (x ∷ rest) =
 -- so are the matches that they make
 found_below : (m : ℕ) (p : Claim → Bool) (cs : List Claim) → claims_below m cs ≡ true → below (new_side (find p cs)) m ≡ true
 found_below m p [] e = refl
-found_below m p (c ∷ cs) e = pick (p c) (and_parts (below c.new m) (claims_below m cs) e) where
-  pick : (t : Bool) → (below c.new m ≡ true) × (claims_below m cs ≡ true) → below (new_side (cond t (Some c) (find p cs))) m ≡ true
-  pick true s = s.0
-  pick false s = found_below m p cs s.1
+found_below m p (c ∷ cs) e =
+    let s = and_parts (below c.new m) (claims_below m cs) e in
+    pick (p c) s.0 (found_below m p cs s.1)
+  where
+    pick : (t : Bool) → below c.new m ≡ true → below (new_side (find p cs)) m ≡ true → below (new_side (cond t (Some c) (find p cs))) m ≡ true
+    pick true first rest = first
+    pick false first rest = rest
 
 open_below : (m : ℕ) (cs : List Claim) (may : ℕ → Bool) (o : Option ℕ) → below o m ≡ true → below (unclaimed cs may o) m ≡ true
 open_below m cs may None e = refl
