@@ -5,4 +5,5 @@ pub mod TypeLemmas
 pub mod NumberLemmas
 pub mod SuitLemmas
 pub mod TwiceLemmas
+pub mod PartLemmas
 mod AloneLemmas
