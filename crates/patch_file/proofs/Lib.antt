@@ -1,3 +1,4 @@
+pub mod SingleParts
 mod Refusals
 mod Files
 mod Answers

@@ -5,6 +5,7 @@ use Rattle.c_tree.specs.declared.lifted.Lifted.{Lifted}
 use Rattle.c_tree.specs.declared.mapping.Mapping.{Mapping}
 use Rattle.c_tree.specs.declared.mapping.Patch.{Patch}
 use Rattle.c_tree.specs.Canonical.{canonical_entries}
+use Rattle.patch_form.specs.declared.format.Format.TheVariants.{Two}
 use Rattle.patch_maker.specs.Made.{IsPatch}
 use Rattle.c_source.specs.Source.{IsAccepted}
 use Rattle.patch_file.specs.Laws.{OneAnswer, MadePatchesReadBack}
@@ -25,5 +26,5 @@ made_whole old new text p q m x a b is made small = record {
 
 pub made_read_back : OneAnswer → MadePatchesReadBack
 made_read_back one old new text p q m x a b is made small =
-    let file : IsFileOf (file_of x) x = (made_whole old new text p q m x a b is made small, refl) in
+    let file : IsFileOf (file_of x) x = (made_whole old new text p q m x a b is made small, (Two, tt, refl)) in
     (file, (λ y other. one.one_patch (file_of x) y x other file), λ at why refused. one.never_both (file_of x) at x why file refused)

@@ -1,12 +1,10 @@
 -- Refusals of the texts of a file as refusals of the file.
 use Rattle.std.proofs.Common.{◌≡◌, ◌∙◌, ℕ, ◌+◌, List, refl, sym, ap, subst, arith}
-use Rattle.c_grammar.specs.Mapping.{IsMappingOf}
 use Rattle.c_tree.specs.declared.cause.FileCause.{FileCause}
 use Rattle.c_tree.specs.declared.cause.FileCause.TheVariants as cause
 use Rattle.c_tree.specs.declared.lifted.Lifted.{Lifted}
 use Rattle.c_tree.specs.declared.mapping.Mapping.{Mapping}
 use Rattle.c_tree.specs.declared.mapping.Patch.{Patch}
-use Rattle.map_lang.specs.Refusal as reader
 use Rattle.map_lang.specs.declared.refused.MapRefused.{MapRefused}
 use Rattle.map_lang.specs.declared.refused.MapRefused.TheVariants as mapping
 use Rattle.patch_form.specs.declared.frame.Frame.{Frame}
@@ -20,13 +18,13 @@ use Rattle.c_source.specs.declared.refused.SourceRefused.TheVariants as source
 use Rattle.patch_file.specs.declared.refused.FileRefused.{FileRefused}
 use Rattle.patch_file.specs.declared.refused.FileRefused.TheVariants.{At, Memory}
 use Rattle.patch_file.specs.Parts.{AreRead, IsMadeOf, IsPlaced, Refuses}
-use Rattle.patch_file.specs.Refusal.{IsAt, IsOfOld, IsOfNew, IsOfMap, IsOfEntry, IsRefusal}
+use Rattle.patch_file.specs.Refusal.{IsAt, IsMapRefusal, IsOfOld, IsOfNew, IsOfMap, IsOfEntry}
 use Rattle.patch_file.specs.Refused.{IsFirstDifference, TextsRefused, old_source, new_source, map_text, entry, not_canonical}
 use Rattle.patch_file.specs.Whole.{map_of}
 
 -- a refusal so many bytes behind the start of a text
 at_start : (f : Frame) (start i : ℕ) (c : FileCause) (r : FileRefused) → IsAt start i c r
-    → ((at : ℕ) (why : FileCause) → at ≡ start + i → why ≡ c → TextsRefused f.old.text.now f.new.text.now f.map.text.now at why) → Refuses f r
+    → ((at : ℕ) (why : FileCause) → at ≡ start + i → why ≡ c → TextsRefused f.format f.old.text.now f.new.text.now f.map.text.now at why) → Refuses f r
 at_start f start i c (At at why) is make = make at why is.0 is.1
 at_start f start i c (Memory e) is make = tt
 
@@ -39,7 +37,7 @@ pub of_new : (f : Frame) (p : Lifted) (why : SourceRefused) (r : FileRefused) �
 of_new f p (source.At i c) r placed old is at = at_start f f.new.at i (cause.NewSource c) r at (λ n why e same. new_source p i c old is (e ∙ ap (λ s. s + i) placed.new) same)
 of_new f p (source.Memory e) r placed old is at = subst (Refuses f) (sym at) tt
 
-pub of_map : (f : Frame) (p q : Lifted) (why : MapRefused) (r : FileRefused) → IsPlaced f → IsAccepted f.old.text.now p → IsAccepted f.new.text.now q → reader.IsRefusal f.map.text.now why
+pub of_map : (f : Frame) (p q : Lifted) (why : MapRefused) (r : FileRefused) → IsPlaced f → IsAccepted f.old.text.now p → IsAccepted f.new.text.now q → IsMapRefusal f.format f.map.text.now why
     → IsOfMap f.map.at why r → Refuses f r
 of_map f p q (mapping.At i c) r placed old new is at = at_start f f.map.at i (cause.Map c) r at (λ n why e same. map_text p q i c old new is (e ∙ ap (λ s. s + i) placed.map) same)
 of_map f p q (mapping.Memory e) r placed old new is at = subst (Refuses f) (sym at) tt

@@ -6,7 +6,10 @@ returns c =
     let frame = c.no_text_has_two_answers.ensures in
     one_answer (record {
       source = c.a_source_has_one_verdict.ensures;
-      mapping = c.a_mapping_has_one_answer.ensures;
+      mapping = c.a_mapping_has_one_answer.ensures.mapping;
+      first_mapping = c.a_mapping_has_one_answer.ensures.first;
+      first = c.first_mappings_are_mappings.ensures;
+      single = c.mappings_of_one_part_are_first.ensures;
       canonical = c.canonical_text_reads_back.ensures;
       texts = frame.texts;
       not_short = frame.not_short;

@@ -9,7 +9,7 @@ use Rattle.patch_file.proofs.Files.{answered, refused_head}
 use Rattle.patch_file.proofs.reading.read_patch.Goals as goal
 
 pub returns-in-Ok : goal.returns-in-Ok
-returns-in-Ok c = answered c.args.bytes.now c.in-Ok.frame c.texts_read.result (omega (arith, c.if-bytes-gt-MAX_FILE.false)) c.in-Ok.ensures.frame c.texts_read.ensures
+returns-in-Ok c = answered c.first_mappings_are_mappings.ensures c.args.bytes.now c.in-Ok.frame c.texts_read.result (omega (arith, c.if-bytes-gt-MAX_FILE.false)) c.in-Ok.ensures.frame c.texts_read.ensures
 
 pub returns-in-Err-BadHead : goal.returns-in-Err-BadHead
 returns-in-Err-BadHead c =
