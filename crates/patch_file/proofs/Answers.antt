@@ -24,7 +24,8 @@ use Rattle.c_source.specs.Source.{IsAccepted, IsRefused}
 use Rattle.patch_file.specs.Formats.{CanBeIn, IsMappingAs, start_of}
 use Rattle.patch_file.specs.Laws.{OneAnswer}
 use Rattle.patch_file.specs.Refused.{IsFirstDifference, TextsRefused, old_source, new_source, map_text, entry, not_canonical, IsFileRefused, too_long, short, bad_head, texts}
-use Rattle.patch_file.specs.Whole.{IsFileOf, IsWhole, file_in, file_of, map_of}
+use Rattle.patch_file.specs.Whole.{IsFileOf, IsWhole, file_in, map_of}
+use Rattle.patch_file.proofs.Files.{as_large}
 use Rattle.patch_file.proofs.SingleParts.{single_mapping}
 use Rattle.read_back.specs.Laws.{CanonicalTextReadsBack}
 
@@ -214,10 +215,6 @@ no_text laws f p old new mapping at c can whole o n m refused =
 
 framing : (f : Format) (bytes : List ℕ) (p : Patch) → bytes ≡ file_in f p → IsFraming bytes
 framing f bytes p is = (f, (p.old_text, (p.new_text, (map_of p, is))))
-
-as_large : (f : Format) (p : Patch) → length (file_in f p) ≡ length (file_of p)
-as_large One p = refl
-as_large Two p = refl
 
 never_both : Laws → (bytes : List ℕ) (at : ℕ) (p : Patch) (c : FileCause) → IsFileOf bytes p → IsFileRefused bytes at c → ⊥
 never_both laws bytes at p c (whole, (f, can, is)) (too_long more e g) = omega (arith, ap length is, as_large f p, whole.small, more)

@@ -63,7 +63,7 @@ writable law One text m x read are = single_entries x.old x.new m x.entries are 
 writable law Two text m x read are = tt
 
 -- the file of a patch has as many bytes in each format
-as_large : (f : Format) (x : Patch) → length (file_in f x) ≡ length (file_of x)
+pub as_large : (f : Format) (x : Patch) → length (file_in f x) ≡ length (file_of x)
 as_large One x = refl
 as_large Two x = refl
 
