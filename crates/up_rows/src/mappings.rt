@@ -4,6 +4,7 @@ mod data;
 mod expressions;
 mod matches;
 mod points;
+mod splits;
 mod texts;
 
 use crate::tool::Upstare;
@@ -79,59 +80,64 @@ int main(void) {
 }
 ";
 
-/// The file of the patch with a canonical mapping.
-fn file_of(alloc: Global, canonical: &str) -> Result<String, AllocError> {
-    let (old, new) = (opened(OLD), opened(NEW));
-    let (old_len, new_len) = (old.len(), new.len());
-    let len = canonical.len();
-    format!(in alloc;
-        "upstare-patch 1\nold {old_len}\n{old}new {new_len}\n{new}map {len}\n{canonical}end\n"
-    )
+/// The patches from one program to another, by the mapping that is the text of a row.
+struct Mapped<'a> {
+    old: &'a str,
+    new: &'a str,
 }
 
-/// What the call comes to that makes a patch with a canonical mapping.
-fn patched(alloc: Global, canonical: &str) -> Result<String, AllocError> {
-    let file = file_of(alloc, canonical)?;
-    let bytes = file.len();
-    format!(in alloc; "ok bytes {bytes}\nstatus 0\nfile p\n{file}")
-}
-
-/// What a call comes to that has this answer: the line of the refusal, or the canonical text, which
-/// is `same` where it is the mapping itself and a newline behind it.
-fn wanted_of(alloc: Global, row: &Row<'_>) -> Result<String, AllocError> {
-    if row.answer.starts_with("map m ") {
-        return format!(in alloc; "err: {}\nstatus 3\n", row.answer);
+impl Mapped<'_> {
+    /// The file of the patch with a canonical mapping.
+    fn file_of(&self, alloc: Global, canonical: &str) -> Result<String, AllocError> {
+        let (old, new) = (opened(self.old), opened(self.new));
+        let (old_len, new_len) = (old.len(), new.len());
+        let len = canonical.len();
+        format!(in alloc;
+            "upstare-patch 2\nold {old_len}\n{old}new {new_len}\n{new}map {len}\n{canonical}end\n"
+        )
     }
-    if row.answer.is_empty() {
-        return patched(alloc, "");
+
+    /// What the call comes to that makes a patch with a canonical mapping.
+    fn patched(&self, alloc: Global, canonical: &str) -> Result<String, AllocError> {
+        let file = self.file_of(alloc, canonical)?;
+        let bytes = file.len();
+        format!(in alloc; "ok bytes {bytes}\nstatus 0\nfile p\n{file}")
     }
-    let canonical = if row.answer == "same" {
-        row.text
-    } else {
-        row.answer
-    };
-    let lines = format!(in alloc; "{canonical}\n")?;
-    patched(alloc, &lines)
+
+    /// What a call comes to that has this answer: the line of the refusal, or the canonical text,
+    /// which is `same` where it is the mapping itself and a newline behind it.
+    fn wanted_of(&self, alloc: Global, row: &Row<'_>) -> Result<String, AllocError> {
+        if row.answer.starts_with("map m ") {
+            return format!(in alloc; "err: {}\nstatus 3\n", row.answer);
+        }
+        if row.answer.is_empty() {
+            return self.patched(alloc, "");
+        }
+        let canonical = if row.answer == "same" {
+            row.text
+        } else {
+            row.answer
+        };
+        let lines = format!(in alloc; "{canonical}\n")?;
+        self.patched(alloc, &lines)
+    }
+
+    /// What the call comes to that makes a patch by this mapping.
+    fn made(&self, alloc: Global, mapping: &str) -> Result<String, AllocError> {
+        let files = [("old.c", self.old), ("new.c", self.new), ("m", mapping)];
+        let call = Call {
+            words: "patch old.c new.c m -o p",
+            files: &files,
+            faults: Faults::NONE,
+        };
+        called(alloc, &Upstare, &call, Shown::All)
+    }
 }
 
-/// What the call comes to that makes a patch by this mapping.
-fn made(alloc: Global, mapping: &str) -> Result<String, AllocError> {
-    let files = [("old.c", OLD), ("new.c", NEW), ("m", mapping)];
-    let call = Call {
-        words: "patch old.c new.c m -o p",
-        files: &files,
-        faults: Faults::NONE,
-    };
-    called(alloc, &Upstare, &call, Shown::All)
-}
-
-/// The patch by the mapping that is the text of a row.
-struct Mapped;
-
-impl Trial for Mapped {
+impl Trial for Mapped<'_> {
     fn put(&self, differing: &mut String, alloc: Global, row: &Row<'_>) -> Result<(), AllocError> {
-        let wanted = wanted_of(alloc, row)?;
-        compare(differing, row.name, &wanted, &made(alloc, row.text)?)
+        let wanted = self.wanted_of(alloc, row)?;
+        compare(differing, row.name, &wanted, &self.made(alloc, row.text)?)
     }
 }
 
@@ -144,7 +150,17 @@ fn mappings_are_canonical_or_refused(rt: HostRuntime) -> Result<(), RowsDiffer> 
         expressions::ROWS,
         texts::ROWS,
     ] {
-        judged(differing_rows(rt.alloc(), &Mapped, table))?;
+        let mapped = Mapped { old: OLD, new: NEW };
+        judged(differing_rows(rt.alloc(), &mapped, table))?;
     }
     Ok(())
+}
+
+#[test]
+fn frames_are_split_or_refused(rt: HostRuntime) -> Result<(), RowsDiffer> {
+    let mapped = Mapped {
+        old: splits::OLD,
+        new: splits::NEW,
+    };
+    judged(differing_rows(rt.alloc(), &mapped, splits::ROWS))
 }
