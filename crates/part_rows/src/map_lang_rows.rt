@@ -6,7 +6,7 @@ mod trees;
 
 use crate::map_lang_rows::rows::{ENTRIES, FAULTS, FIRST, UNEXPECTED};
 use crate::repeats::{Repeat, repeated};
-use c_tree::{At, Entry, Fill, Mapping, Name, Pt};
+use c_tree::{At, Entry, Fill, Mapping, Name, Part, Pt};
 use map_lang::{MapRefused, read_map};
 use row_calls::{RowsDiffer, compare, judged, opened};
 use std::alloc::{AllocError, Global};
@@ -43,14 +43,10 @@ fn put_field(text: &mut String, owner: &Name, field: &Name) -> Result<(), AllocE
     write!(text, "field {owner} {field} ")
 }
 
-fn put_point(text: &mut String, function: &Name, old: Pt, new: Pt) -> Result<(), AllocError> {
+fn put_point(text: &mut String, function: &Name, old: Pt) -> Result<(), AllocError> {
     let function = word(function);
-    let (old_kind, new_kind) = (kind_word(old.kind), kind_word(new.kind));
-    write!(
-        text,
-        "point {function} {old_kind} {} {new_kind} {} ",
-        old.number, new.number
-    )
+    let kind = kind_word(old.kind);
+    write!(text, "point {function} {kind} {} ", old.number)
 }
 
 fn put_head(text: &mut String, entry: &Entry) -> Result<(), AllocError> {
@@ -58,7 +54,7 @@ fn put_head(text: &mut String, entry: &Entry) -> Result<(), AllocError> {
         Entry::Match(kind, old, new) => put_match(text, *kind, old, new),
         Entry::Field(owner, field, _) => put_field(text, owner, field),
         Entry::Init(global, _) => write!(text, "init {} ", word(global)),
-        Entry::Point(function, old, new, _) => put_point(text, function, *old, *new),
+        Entry::Point(function, old, _) => put_point(text, function, *old),
         Entry::Check(_) => text.push_str("check "),
     }
 }
@@ -71,6 +67,22 @@ fn put_fills(text: &mut String, alloc: Global, fills: &[Fill]) -> Result<(), All
     Ok(())
 }
 
+fn put_part(text: &mut String, alloc: Global, part: &Part) -> Result<(), AllocError> {
+    if let Some(function) = &part.function {
+        write!(text, "part {} ", word(function))?;
+    }
+    let kind = kind_word(part.point.kind);
+    write!(text, "{kind} {} ", part.point.number)?;
+    put_fills(text, alloc, part.fills.as_slice())
+}
+
+fn put_parts(text: &mut String, alloc: Global, parts: &[Part]) -> Result<(), AllocError> {
+    for part in parts {
+        put_part(text, alloc, part)?;
+    }
+    Ok(())
+}
+
 fn put_entry(text: &mut String, alloc: Global, entry: &At<Entry>) -> Result<(), AllocError> {
     put_head(text, &entry.it)?;
     write!(text, "@{} ", entry.at)?;
@@ -79,7 +91,7 @@ fn put_entry(text: &mut String, alloc: Global, entry: &At<Entry>) -> Result<(), 
         Entry::Field(_, _, expr) => put_tree(text, alloc, Node::Expr(expr)),
         Entry::Init(_, expr) => put_tree(text, alloc, Node::Expr(expr)),
         Entry::Check(expr) => put_tree(text, alloc, Node::Expr(expr)),
-        Entry::Point(_, _, _, fills) => put_fills(text, alloc, fills.as_slice()),
+        Entry::Point(_, _, parts) => put_parts(text, alloc, parts.as_slice()),
     }
 }
 

@@ -58,10 +58,14 @@ fn differing_rows(alloc: Global) -> Result<String, AllocError> {
         let map = opened(map);
         let len = map.len();
         let file = format!(in alloc;
-            "upstare-patch 1\nold 88\n{C1}new 88\n{C2}map {len}\n{map}end\n"
+            "upstare-patch 2\nold 88\n{C1}new 88\n{C2}map {len}\n{map}end\n"
         )?;
         compare(&mut differing, map, &file, &read_again(alloc, &file)?)?;
         put_cuts(&mut differing, alloc, &file)?;
+        let first = format!(in alloc;
+            "upstare-patch 1\nold 88\n{C1}new 88\n{C2}map {len}\n{map}end\n"
+        )?;
+        compare(&mut differing, map, &file, &read_again(alloc, &first)?)?;
     }
     Ok(differing)
 }
@@ -75,7 +79,7 @@ fn a_patch_is_read_back(rt: HostRuntime) -> Result<(), RowsDiffer> {
 fn differing_limit(alloc: Global) -> Result<String, AllocError> {
     let mut differing = String::new(alloc);
     let rest = "x".repeat(alloc, 4_194_289)?;
-    let more = format!(in alloc; "upstare-patch 1\n{rest}")?;
+    let more = format!(in alloc; "upstare-patch 2\n{rest}")?;
     compare(
         &mut differing,
         "one byte more",

@@ -74,12 +74,17 @@ end
 #[rattlefmt::skip]
 const FIRST_LINES: &[(&str, &str)] = &[
     ("", "short"),
+    ("upstare-patch ", "short"),
     ("upstare-patch 1", "short"),
+    ("upstare-patch 2", "short"),
     ("U", "bad at 0"),
     ("\nupstare-patch 1\n", "bad at 0"),
     ("upstare patch 1\n", "bad at 7"),
-    ("upstare-patch 2\n", "bad at 14"),
+    ("upstare-patch 0\n", "bad at 14"),
+    ("upstare-patch 3\n", "bad at 14"),
+    ("upstare-patch a\n", "bad at 14"),
     ("upstare-patch 10\n", "bad at 15"),
+    ("upstare-patch 22\n", "bad at 15"),
 ];
 
 /// What stands behind a length of 200 digits, and the answer to the file.
@@ -94,14 +99,16 @@ const LONG_LENGTHS: &[(&str, &str)] = &[
 
 fn differing_rows(alloc: Global) -> Result<String, AllocError> {
     let mut differing = String::new(alloc);
-    for (tail, wanted) in FILES {
-        let file = format!(in alloc; "upstare-patch 1\n{}", opened(tail))?;
-        compare(
-            &mut differing,
-            tail,
-            wanted,
-            &answer(alloc, file.as_bytes())?,
-        )?;
+    for head in ["upstare-patch 1\n", "upstare-patch 2\n"] {
+        for (tail, wanted) in FILES {
+            let file = format!(in alloc; "{head}{}", opened(tail))?;
+            compare(
+                &mut differing,
+                tail,
+                wanted,
+                &answer(alloc, file.as_bytes())?,
+            )?;
+        }
     }
     for (file, wanted) in FIRST_LINES {
         compare(
@@ -132,9 +139,9 @@ fn each_file_has_its_answer(rt: HostRuntime) -> Result<(), RowsDiffer> {
 /// Three texts, and their file.
 #[rattlefmt::skip]
 const WRITTEN: &[(&str, &str, &str, &str)] = &[
-    ("", "", "", "upstare-patch 1\nold 0\nnew 0\nmap 0\nend\n"),
+    ("", "", "", "upstare-patch 2\nold 0\nnew 0\nmap 0\nend\n"),
     ("int main(void) { return 0; }\n", "end\n", "old 3\n", r"
-upstare-patch 1
+upstare-patch 2
 old 29
 int main(void) { return 0; }
 new 4
@@ -150,7 +157,7 @@ new 0
 map 0
 end
 ", "\0\u{ff}\r\n", "\
-upstare-patch 1\nold 1\n0new 38\n\
+upstare-patch 2\nold 1\n0new 38\n\
 upstare-patch 1\nold 0\nnew 0\nmap 0\n\
 end\nmap 5\n\0\u{ff}\r\nend\n"),
 ];

@@ -105,7 +105,7 @@ ok b%
 err: cannot write output
 status 5
 file p
-upstare-patch 1
+upstare-patch 2
 old 88
 int n; int main(void) { while (n < 4) { n = n + 1; printf("old %d\n", n); } return 0; }
 new 88

@@ -25,7 +25,7 @@ const ROWS: &[CallRow<'static>] = &[
 ok bytes 246
 status 0
 file p
-upstare-patch 1
+upstare-patch 2
 old 88
 int n; int main(void) { while (n < 4) { n = n + 1; printf("old %d\n", n); } return 0; }
 new 88
@@ -40,7 +40,7 @@ end
 ok bytes 234
 status 0
 file p
-upstare-patch 1
+upstare-patch 2
 old 88
 int n; int main(void) { while (n < 4) { n = n + 1; printf("old %d\n", n); } return 0; }
 new 88

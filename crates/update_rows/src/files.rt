@@ -10,7 +10,7 @@ use std::alloc::{AllocError, Global};
 
 /// The patch of the loops.
 const PATCH: &str = r#"
-upstare-patch 1
+upstare-patch 2
 old 88
 int n; int main(void) { while (n < 4) { n = n + 1; printf("old %d\n", n); } return 0; }
 new 88
