@@ -2,9 +2,7 @@
 
 use crate::patches::C1;
 use crate::tool::Upstare;
-use row_calls::{
-    CallRow, FaultRow, Faults, RowsDiffer, differing_calls, differing_faults, judged,
-};
+use row_calls::{CallRow, FaultRow, Faults, RowsDiffer, differing_calls, differing_faults, judged};
 
 /// A patch in format 1.
 const FIRST: &str = r#"
