@@ -97,6 +97,9 @@ pub record Framed (k : Link) (n : ℕ) (f : Frame) (p : Part) (fs : List Frame) 
   pub valid : All (λ g. ValidFrame k.new n g) (framed p values ∷ more)
   pub leads : Leads k f (framed p values) more
 
+joined : (xs ys cs ds fs : List Frame) → xs ++ ys ≡ fs → xs ≡ cs → ys ≡ ds → fs ≡ cs ++ ds
+joined xs ys cs ds fs e p q = sym e ∙ (ap (λ zs. zs ++ ys) p ∙ ap (λ zs. cs ++ zs) q)
+
 pub one_framed : (k : Link) (n : ℕ) (s : State) (f : Frame) (because : ℕ → ℕ → Reason) (j : ℕ) (p : Part) (vs : List ℤ) → Old k.old n s →
     ValidFrame k.old n f → PartFits k n f.function p → filled (view_of s f) because j p.fillings ≡ Ok vs → ValidFrame k.new n (framed p vs)
 one_framed k n s f because j p vs a v fits w = record {
@@ -124,7 +127,7 @@ parts_framed k n s f because j p (q ∷ rest) fs a v fits leads w =
     record {
       values = r.0;
       more = framed q on.values ∷ on.more;
-      are = sym (same_ok (framed p r.0 ∷ t.0) fs t.1.1) ∙ ap (λ gs. framed p r.0 ∷ gs) on.are;
+      are = joined (framed p r.0 ∷ []) t.0 (framed p r.0 ∷ []) (framed q on.values ∷ on.more) fs (same_ok (framed p r.0 ∷ t.0) fs t.1.1) refl on.are;
       valid = all_cons (λ g. ValidFrame k.new n g) (framed p r.0) (framed q on.values ∷ on.more)
           (one_framed k n s f because j p r.0 a v (all_head (λ q. PartFits k n f.function q) p (q ∷ rest) fits) r.1.0) on.valid;
       leads = (leads.0, on.leads);
@@ -204,7 +207,7 @@ frames_mapped k entries n s t i f (x ∷ fs) new a m v c w =
     let on : StackMoved k n x fs y.0 y.1.0 = y.1.1.1 in (
       g.0,
       (g.1.0 ++ y.0 ∷ y.1.0, (
-        sym (same_ok (r.0 ++ q.0) new q.1.1) ∙ (ap (λ gs. gs ++ q.0) g.1.1.0 ∙ ap (λ hs. g.0 ∷ g.1.0 ++ hs) y.1.1.0),
+        joined r.0 q.0 (g.0 ∷ g.1.0) (y.0 ∷ y.1.0) new (same_ok (r.0 ++ q.0) new q.1.1) g.1.1.0 y.1.1.0,
         record {
           matched = to.matched;
           valid = all_join (λ g. ValidFrame k.new n g) (g.0 ∷ g.1.0) (y.0 ∷ y.1.0) to.valid on.valid;
