@@ -193,10 +193,13 @@ frames_mapped k entries n s t i f [] new a m v c w =
     let g = frame_mapped k entries n s t i f r.0 a m (all_head (λ f. ValidFrame k.old n f) f [] v) r.1.0 in
     let to : Moved k n f g.0 g.1.0 = g.1.1.1 in (
       g.0,
-      (g.1.0, (
-        sym (same_ok (r.0 ++ []) new r.1.1) ∙ (append-nil r.0 ∙ g.1.1.0),
-        record { matched = to.matched; valid = to.valid; chained = alone_chained k f g.0 g.1.0 to.leads; stands = λ q. alone_stands k f g.0 g.1.0 to.leads q },
-      )),
+      (
+        g.1.0,
+        (
+          sym (same_ok (r.0 ++ []) new r.1.1) ∙ (append-nil r.0 ∙ g.1.1.0),
+          record { matched = to.matched; valid = to.valid; chained = alone_chained k f g.0 g.1.0 to.leads; stands = λ q. alone_stands k f g.0 g.1.0 to.leads q },
+        ),
+      ),
     )
 frames_mapped k entries n s t i f (x ∷ fs) new a m v c w =
     let r = onward_known (map_frame k entries s t i f) (λ gs. onward (map_frames k entries s t (i + 1) (x ∷ fs)) (λ hs. Ok (gs ++ hs))) new w in
@@ -206,15 +209,18 @@ frames_mapped k entries n s t i f (x ∷ fs) new a m v c w =
     let y = frames_mapped k entries n s t (i + 1) x fs q.0 a m (all_tail (λ f. ValidFrame k.old n f) f (x ∷ fs) v) c.1 q.1.0 in
     let on : StackMoved k n x fs y.0 y.1.0 = y.1.1.1 in (
       g.0,
-      (g.1.0 ++ y.0 ∷ y.1.0, (
-        joined r.0 q.0 (g.0 ∷ g.1.0) (y.0 ∷ y.1.0) new (same_ok (r.0 ++ q.0) new q.1.1) g.1.1.0 y.1.1.0,
-        record {
-          matched = to.matched;
-          valid = all_join (λ g. ValidFrame k.new n g) (g.0 ∷ g.1.0) (y.0 ∷ y.1.0) to.valid on.valid;
-          chained = both_chained k f x g.0 g.1.0 y.0 y.1.0 to.leads c.0 on.matched on.chained;
-          stands = λ z. inner_stands k.new g.0 g.1.0 y.0 y.1.0 (on.stands z);
-        },
-      )),
+      (
+        g.1.0 ++ y.0 ∷ y.1.0,
+        (
+          joined r.0 q.0 (g.0 ∷ g.1.0) (y.0 ∷ y.1.0) new (same_ok (r.0 ++ q.0) new q.1.1) g.1.1.0 y.1.1.0,
+          record {
+            matched = to.matched;
+            valid = all_join (λ g. ValidFrame k.new n g) (g.0 ∷ g.1.0) (y.0 ∷ y.1.0) to.valid on.valid;
+            chained = both_chained k f x g.0 g.1.0 y.0 y.1.0 to.leads c.0 on.matched on.chained;
+            stands = λ z. inner_stands k.new g.0 g.1.0 y.0 y.1.0 (on.stands z);
+          },
+        ),
+      ),
     )
 
 -- as many new frames as there are parts

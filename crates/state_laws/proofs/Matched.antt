@@ -13,7 +13,7 @@ use Rattle.c_tree.specs.Link.{Link, Claim, new_side, unclaimed, match_of, matche
 use Rattle.c_tree.specs.Sound.{sound_match, is_sound_entry, numbers_clash, are_sound}
 use Rattle.state_laws.proofs.TypedValues.{no_false}
 use Rattle.state_laws.proofs.Filled.{and_both}
-use Rattle.state_laws.proofs.SoundFits.{not_true, clash_of, number_known}
+use Rattle.state_laws.proofs.SoundFits.{not_true, clash_of}
 
 pub same_name : (a b : List ℕ) → is_same_name a b ≡ true → a ≡ b
 same_name [] [] e = refl
