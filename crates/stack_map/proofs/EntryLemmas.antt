@@ -14,7 +14,7 @@ pub first_field : (owner i : ℕ) (es : List LEntry) → field_value (find (is_a
 first_field owner i [] = refl
 first_field owner i (l.Match k a b ∷ es) = first_field owner i es
 first_field owner i (l.Init g x ∷ es) = first_field owner i es
-first_field owner i (l.Point f n m fills ∷ es) = first_field owner i es
+first_field owner i (l.Point f n parts ∷ es) = first_field owner i es
 first_field owner i (l.Check x ∷ es) = first_field owner i es
 first_field owner i (l.Field t j x ∷ es) = pick (owner == t && i == j) (first_field owner i es) where
   pick : (b : Bool) → field_value (find (is_about (s.Field owner i)) es) ≡ first_some (map (field_for owner i) es) →
@@ -26,7 +26,7 @@ pub first_init : (g : ℕ) (es : List LEntry) → init_value (find (is_about (s.
 first_init g [] = refl
 first_init g (l.Match k a b ∷ es) = first_init g es
 first_init g (l.Field t j x ∷ es) = first_init g es
-first_init g (l.Point f n m fills ∷ es) = first_init g es
+first_init g (l.Point f n parts ∷ es) = first_init g es
 first_init g (l.Check x ∷ es) = first_init g es
 first_init g (l.Init h x ∷ es) = pick (g == h) (first_init g es) where
   pick : (b : Bool) → init_value (find (is_about (s.Global g)) es) ≡ first_some (map (init_of g) es) →
@@ -40,4 +40,4 @@ first_point f i (l.Match k a b ∷ es) = first_point f i es
 first_point f i (l.Field t j x ∷ es) = first_point f i es
 first_point f i (l.Init g x ∷ es) = first_point f i es
 first_point f i (l.Check x ∷ es) = first_point f i es
-first_point f i (l.Point g j m fills ∷ es) = ap (λ o. cond (f == g && i == j) (Some (l.Point g j m fills)) o) (first_point f i es)
+first_point f i (l.Point g j parts ∷ es) = ap (λ o. cond (f == g && i == j) (Some (l.Point g j parts)) o) (first_point f i es)

@@ -3,7 +3,6 @@ pub mod SameLemmas
 pub mod StmtLemmas
 pub mod BodyLemmas
 -- of what fills new slots and fields
-pub mod After
 pub mod EntryLemmas
 pub mod SubjectLemmas
 pub mod CarryLemmas

@@ -6,3 +6,4 @@ pub mod Subjects
 pub mod Kept
 pub mod PlacesOf
 pub mod Moved
+pub mod Added

@@ -6,7 +6,7 @@ use Rattle.std.specs.declared.hash.BuildHasherDefault.{BuildHasherDefault}
 use Rattle.indexmap.specs.IndexMap.{IndexMap, get}
 use Rattle.c_tree.specs.declared.mapping.LEntry.{LEntry}
 use Rattle.c_tree.specs.declared.mapping.LEntry.TheVariants as l
-use Rattle.c_tree.specs.declared.mapping.LFill.{LFill}
+use Rattle.c_tree.specs.declared.mapping.LPart.{LPart}
 use Rattle.c_tree.specs.declared.lifted.LExpr.{LExpr}
 use Rattle.stack_map.specs.declared.entries.Subject.{Subject}
 use Rattle.stack_map.specs.declared.entries.Subject.TheVariants as s
@@ -21,7 +21,7 @@ abbrev pub subject_of : LEntry → Option Subject
 subject_of (l.Match kind i j) = None
 subject_of (l.Field owner i x) = Some (s.Field owner i)
 subject_of (l.Init g x) = Some (s.Global g)
-subject_of (l.Point f n m fills) = Some (s.Place f n)
+subject_of (l.Point f n parts) = Some (s.Place f n)
 subject_of (l.Check x) = None
 
 -- whether there is a thing, and it is this one
@@ -55,7 +55,7 @@ abbrev pub init_value : Option LEntry → Option LExpr
 init_value (Some (l.Init g x)) = Some x
 init_value _ = None
 
--- where an entry leads a place to, and with which fills
-abbrev pub point_of : Option LEntry → Option (ℕ × List LFill)
-point_of (Some (l.Point f n m fills)) = Some (m, fills)
+-- the parts that an entry takes a place to
+abbrev pub point_of : Option LEntry → Option (List LPart)
+point_of (Some (l.Point f n parts)) = Some parts
 point_of _ = None

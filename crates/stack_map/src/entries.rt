@@ -9,7 +9,7 @@ ghost use Rattle.c_tree.specs.MapStack.{is_point_of};
 ghost use Rattle.c_tree.specs.Refusal.{first_some};
 ghost use Rattle.stack_map.specs.Subjects as spec;
 
-use c_tree::{LEntry, LExpr, LFill, narrowed};
+use c_tree::{LEntry, LExpr, LPart, narrowed};
 use indexmap::IndexMap;
 use std::alloc::{AllocError, Global};
 
@@ -33,7 +33,7 @@ fn subject_of(entry: &LEntry) -> Option<Subject>
     match entry {
         LEntry::Field(owner, field, _) => Some(Subject::Field(*owner, *field)),
         LEntry::Init(global, _) => Some(Subject::Global(*global)),
-        LEntry::Point(function, place, _, _) => Some(Subject::Place(*function, *place)),
+        LEntry::Point(function, place, _) => Some(Subject::Place(*function, *place)),
         LEntry::Match(_, _, _) => None,
         LEntry::Check(_) => None,
     }
@@ -104,7 +104,7 @@ fn field_value(entry: &LEntry) -> Option<&LExpr>
         LEntry::Field(_, _, value) => Some(value),
         LEntry::Match(_, _, _) => None,
         LEntry::Init(_, _) => None,
-        LEntry::Point(_, _, _, _) => None,
+        LEntry::Point(_, _, _) => None,
         LEntry::Check(_) => None,
     }
 }
@@ -131,20 +131,20 @@ fn init_value(entry: &LEntry) -> Option<&LExpr>
         LEntry::Init(_, value) => Some(value),
         LEntry::Match(_, _, _) => None,
         LEntry::Field(_, _, _) => None,
-        LEntry::Point(_, _, _, _) => None,
+        LEntry::Point(_, _, _) => None,
         LEntry::Check(_) => None,
     }
 }
 
-/// Where the entries take a place of an old function, and what fills the slots there.
+/// The parts that the entries take a place of an old function to.
 pub fn declared_point<'a>(
     declared: &Declared,
     entries: &'a [LEntry],
     function: u32,
     place: u32,
-) -> Option<(u32, &'a [LFill])>
+) -> Option<&'a [LPart]>
     requires { spec.GivesFirst declared.now entries.now }
-    ensures { option_map (λ r. (r.0, r.1.now)) result
+    ensures { option_map (λ r. r.now) result
         ≡ spec.point_of (find (is_point_of function place) entries.now) }
 {
     match first(declared, entries, Subject::Place(function, place)) {
@@ -153,11 +153,11 @@ pub fn declared_point<'a>(
     }
 }
 
-fn point_value(entry: &LEntry) -> Option<(u32, &[LFill])>
-    ensures { option_map (λ r. (r.0, r.1.now)) result ≡ spec.point_of (Some entry.now) }
+fn point_value(entry: &LEntry) -> Option<&[LPart]>
+    ensures { option_map (λ r. r.now) result ≡ spec.point_of (Some entry.now) }
 {
     match entry {
-        LEntry::Point(_, _, to, fills) => Some((*to, fills.as_slice())),
+        LEntry::Point(_, _, parts) => Some(parts.as_slice()),
         LEntry::Match(_, _, _) => None,
         LEntry::Field(_, _, _) => None,
         LEntry::Init(_, _) => None,

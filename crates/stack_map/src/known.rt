@@ -4,10 +4,11 @@ ghost use Rattle.std.specs.Prelude.{◌≡◌, IfOk, OnOk};
 ghost use Rattle.stack_map.specs.Moved.{Tells};
 
 use crate::frame_map::FrameMap;
-use crate::parts::{Part, part_at};
+use crate::parts::{Part, parts_at};
+use c_tree::Row;
 use std::alloc::{AllocError, Global};
 
-/// The part that frames at one place of an old function become, kept for the next frame: stacks
+/// The parts that frames at one place of an old function become, kept for the next frame: stacks
 /// often hold many frames at one place.
 #[derive(Drop)]
 pub struct Known {
@@ -15,7 +16,7 @@ pub struct Known {
     pub function: u32,
     pub place: u32,
     /// What a frame there becomes; none where the place has no map.
-    pub part: Option<Part>,
+    pub parts: Option<Row<Part>>,
 }
 
 impl Known {
@@ -29,11 +30,11 @@ impl Known {
         ensures at { IfOk result (λ known. (known.function ≡ function) × (known.place ≡ place)) }
         ensures tells { IfOk result (λ known. Tells m.now.link.now m.now.entries.now known) }
     {
-        let part = part_at(alloc, m, function, place)?;
+        let parts = parts_at(alloc, m, function, place)?;
         Ok(Known {
             function,
             place,
-            part,
+            parts,
         })
     }
 

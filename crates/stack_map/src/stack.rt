@@ -8,9 +8,12 @@ use crate::end::MapEnd;
 use crate::frame_map::FrameMap;
 use crate::frames::map_frames;
 use crate::known::Known;
-use crate::parts::has_map;
+use crate::parts::{count_at, has_map};
 use c_tree::{Frame, Reason, Row, State, narrowed};
 use std::alloc::{AllocError, Global};
+
+/// How many frames a thread may have.
+const MAX_FRAMES: usize = 10_000;
 
 /// The reason against the first frame of a thread that has no map.
 pub fn unmapped_frame(
@@ -29,8 +32,23 @@ pub fn unmapped_frame(
     Ok(None)
 }
 
+/// The reason against a thread whose new frames are more than a thread may have. Nothing is made.
+pub fn deep_stack(m: &FrameMap<'_, '_>, thread: u32, frames: &[Frame]) -> Option<Reason>
+    ensures { result ≡ spec.too_deep m.now.link.now m.now.entries.now thread frames.now }
+{
+    let mut depth = 0usize;
+    for i in 0..frames.len() {
+        let count = count_at(m, frames[i].function, frames[i].place);
+        if count > MAX_FRAMES - depth {
+            return Some(Reason::Depth(thread));
+        }
+        depth += count;
+    }
+    None
+}
+
 /// The new frames of an old thread, outermost first, as its old ones. Refused is the first frame
-/// that has no map, else the first slot that traps. More than 4,294,967,296 frames count as want of
+/// that has no map, else a new stack that is too deep, else the first slot that traps. More than 4,294,967,296 frames count as want of
 /// memory.
 pub fn map_stack(
     alloc: Global,
@@ -47,6 +65,9 @@ pub fn map_stack(
         Ok(None) => {}
         Ok(Some(reason)) => return Err(MapEnd::Refused(reason)),
         Err(e) => return Err(MapEnd::Memory(e)),
+    }
+    if let Some(reason) = deep_stack(m, thread, frames) {
+        return Err(MapEnd::Refused(reason));
     }
     // Any place will do to begin with.
     match Known::at(alloc, m, 0, 0) {

@@ -10,7 +10,7 @@ use crate::end::MapEnd;
 use crate::frame_map::FrameMap;
 use crate::frames::map_frames;
 use crate::known::Known;
-use crate::stack::unmapped_frame;
+use crate::stack::{deep_stack, unmapped_frame};
 use c_tree::{Frame, Reason, Row, State, narrowed};
 use std::alloc::{AllocError, Global};
 
@@ -42,6 +42,39 @@ pub fn unmapped(
 {
     for t in 0..threads.len() {
         if let Some(reason) = unmapped_in(m, t, &threads[t])? {
+            return Ok(Some(reason));
+        }
+    }
+    Ok(None)
+}
+
+/// The reason against a thread whose new stack is too deep; one that has ended has no frames.
+fn deep_in(
+    m: &FrameMap<'_, '_>,
+    number: usize,
+    thread: &Option<Row<Frame>>,
+) -> Result<Option<Reason>, AllocError>
+    ensures { IfOk result (λ r. r
+        ≡ spec.thread_deep m.now.link.now m.now.entries.now number thread.now) }
+{
+    match thread {
+        Some(frames) => Ok(deep_stack(m, narrowed(number)?, frames.as_slice())),
+        None => Ok(None),
+    }
+}
+
+/// The reason against the first thread whose new frames would be more than a thread may have. The
+/// parts of its frames are counted, and nothing is made. More than 4,294,967,296 threads count as
+/// want of memory.
+pub fn deep(
+    m: &FrameMap<'_, '_>,
+    threads: &[Option<Row<Frame>>],
+) -> Result<Option<Reason>, AllocError>
+    ensures { IfOk result (λ r. r
+        ≡ first_some (spec.all_deep m.now.link.now m.now.entries.now 0 threads.now)) }
+{
+    for t in 0..threads.len() {
+        if let Some(reason) = deep_in(m, t, &threads[t])? {
             return Ok(Some(reason));
         }
     }

@@ -1,6 +1,6 @@
 //! The values of new slots and fields.
 
-ghost use Rattle.std.specs.Prelude.{◌≡◌, ◌≤◌, ◌∷◌, ◌++◌, [], length, MatchResult, OnOk, Ok};
+ghost use Rattle.std.specs.Prelude.{◌≡◌, ◌≤◌, ◌+◌, ◌∷◌, ◌++◌, [], length, MatchResult, OnOk, Ok};
 ghost use Rattle.c_tree.specs.Fillings as spec;
 ghost use Rattle.c_tree.specs.Value as values;
 ghost use Rattle.stack_map.specs.Refusal.{IsRefusal};
@@ -37,23 +37,25 @@ fn put(made: &mut Vec<i32>, v: i32) -> Result<(), AllocError>
     Ok(())
 }
 
-/// The values of fillings in the old state, or the reason of the first that traps.
+/// The values of fillings in the old state, or the reason of the first that traps. In reasons they
+/// are numbered from `first` on.
 pub fn filled(
     alloc: Global,
     fillings: &[LExpr],
+    first: u32,
     slots: &[i32],
     own: &[i32],
     state: &State,
     whose: Whose,
 ) -> Result<Row<i32>, MapEnd>
-    requires { length fillings.now ≤ 4294967295 }
+    requires { first + length fillings.now ≤ 4294967295 }
     ensures { let wanted = spec.filled
         (values.view slots.now own.now state.now.globals state.now.heap.objects)
-        (because whose) 0 fillings.now in
+        (because whose) first fillings.now in
         MatchResult result (λ vs. wanted ≡ Ok vs) (IsRefusal wanted) }
 {
     let mut made = Vec::new(alloc);
-    let mut i = 0u32;
+    let mut i = first;
     for x in fillings {
         match value(
             x,

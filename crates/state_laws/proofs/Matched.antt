@@ -27,10 +27,6 @@ pub own_name : (a : List ℕ) → is_same_name a a ≡ true
 own_name [] = refl
 own_name (x ∷ a) = ap (λ b. b && is_same_name a a) (eq-eqb x x refl) ∙ own_name a
 
-pub number_known : (o : Option ℕ) (i : ℕ) → is_number o i ≡ true → o ≡ Some i
-number_known None i e = absurd (no_false e)
-number_known (Some m) i e = ap (λ z. Some z) (eqb-true m i e)
-
 pub own_number : (i : ℕ) → is_number (Some i) i ≡ true
 own_number i = eq-eqb i i refl
 
@@ -72,7 +68,7 @@ any_says kind p (n.Match i a b ∷ rest) e = pick (i == kind) refl e (any_says k
   ]
 any_says kind p (n.Field a b c ∷ rest) e = later kind p (n.Field a b c) rest (any_says kind p rest e)
 any_says kind p (n.Init a b ∷ rest) e = later kind p (n.Init a b) rest (any_says kind p rest e)
-any_says kind p (n.Point a b c d ∷ rest) e = later kind p (n.Point a b c d) rest (any_says kind p rest e)
+any_says kind p (n.Point a b c ∷ rest) e = later kind p (n.Point a b c) rest (any_says kind p rest e)
 any_says kind p (n.Check a ∷ rest) e = later kind p (n.Check a) rest (any_says kind p rest e)
 
 pub any_join : (p : Claim → Bool) (xs ys : List Claim) → list_any p ys ≡ true → list_any p (xs ++ ys) ≡ true
@@ -111,7 +107,7 @@ find_says kind p (n.Match i a b ∷ rest) c e = pick (i == kind) refl e (find_sa
   pick true g e more = here g (p (claim a b)) refl e more
 find_says kind p (n.Field a b d ∷ rest) c e = let t = find_says kind p rest c e in (t.0, (t.1.0, (t.1.1.0, (inr t.1.1.1.0, t.1.1.1.1))))
 find_says kind p (n.Init a b ∷ rest) c e = let t = find_says kind p rest c e in (t.0, (t.1.0, (t.1.1.0, (inr t.1.1.1.0, t.1.1.1.1))))
-find_says kind p (n.Point a b d f ∷ rest) c e = let t = find_says kind p rest c e in (t.0, (t.1.0, (t.1.1.0, (inr t.1.1.1.0, t.1.1.1.1))))
+find_says kind p (n.Point a b d ∷ rest) c e = let t = find_says kind p rest c e in (t.0, (t.1.0, (t.1.1.0, (inr t.1.1.1.0, t.1.1.1.1))))
 find_says kind p (n.Check a ∷ rest) c e = let t = find_says kind p rest c e in (t.0, (t.1.0, (t.1.1.0, (inr t.1.1.1.0, t.1.1.1.1))))
 
 -- where a test passes of some claim, one is found

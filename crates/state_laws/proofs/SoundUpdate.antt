@@ -23,9 +23,9 @@ use Rattle.state_laws.proofs.Refers.{refers_more}
 use Rattle.state_laws.proofs.Forms.{Distinct, HasForm}
 use Rattle.state_laws.proofs.TypedValues.{no_false}
 use Rattle.state_laws.proofs.Filled.{and_both, position_found}
-use Rattle.state_laws.proofs.SoundFits.{not_true, clash_of, UnchangedKept, maps_well, inits_give, fields_give}
+use Rattle.state_laws.proofs.SoundFits.{not_true, clash_of, number_known, UnchangedKept, maps_well, inits_give, fields_give}
 use Rattle.state_laws.proofs.ValidUpdate.{valid_update}
-use Rattle.state_laws.proofs.Matched.{claims, Says, any_says, says_any, find_says, found_of, says_sound, says_once, ByName, match_known, enum_get, same_name, own_name, number_known, own_number}
+use Rattle.state_laws.proofs.Matched.{claims, Says, any_says, says_any, find_says, found_of, says_sound, says_once, ByName, match_known, enum_get, same_name, own_name, own_number}
 
 -- the first of a list that passes, where only one does
 pub only_position : {A : Type 0} (p : A → Bool) (xs : List A) (j i m : ℕ) (x : A) → m ≡ j + i → slice_get xs i ≡ Some x → p x ≡ true →

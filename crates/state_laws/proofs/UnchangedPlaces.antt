@@ -24,8 +24,7 @@ use Rattle.c_tree.specs.Update.{update}
 use Rattle.state_laws.proofs.TypedValues.{no_false}
 use Rattle.state_laws.proofs.Filled.{and_both}
 use Rattle.state_laws.proofs.MappedStacks.{Calls}
-use Rattle.state_laws.proofs.SoundFits.{UnchangedKept, inside}
-use Rattle.state_laws.proofs.Matched.{number_known}
+use Rattle.state_laws.proofs.SoundFits.{UnchangedKept, inside, number_known}
 use Rattle.state_laws.proofs.SoundUpdate.{sound_update_by}
 use Rattle.state_laws.proofs.Forms.{form_of}
 

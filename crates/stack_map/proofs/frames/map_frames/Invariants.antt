@@ -1,6 +1,6 @@
 use Rattle.std.proofs.Common.{◌≡◌, drop}
 use Rattle.c_tree.specs.MapStack as spec
-use Rattle.stack_map.proofs.After.{after}
+use Rattle.stack_map.specs.Added.{after}
 use Rattle.stack_map.specs.Moved as moved
 use Rattle.stack_map.proofs.frames.map_frames.Given as goal
 
