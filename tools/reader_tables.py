@@ -508,6 +508,7 @@ WHOLE = {
     "start": "what a whole source is",
     "expr_start": "what a whole expression of a mapping is",
     "map_start": "what a whole mapping is",
+    "first_map_start": "what a whole mapping of the first format is, where a point has one part",
 }
 
 
