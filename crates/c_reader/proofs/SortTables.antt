@@ -11,6 +11,7 @@ use Rattle.c_grammar.specs.Rules.{alternatives}
 use Rattle.c_grammar.specs.Values.{older}
 use Rattle.c_grammar.specs.Effects.{value_effect}
 use Rattle.c_grammar.specs.Reading.{Among, first, later}
+use Rattle.c_reader.specs.Choices.{choices}
 use Rattle.c_reader.proofs.Sorts as sort
 use Rattle.c_reader.proofs.Sorts.{Sort, wants, makes, takes, gives}
 use Rattle.c_reader.proofs.SortRuns.{sorts, run, older_sorts}
@@ -472,6 +473,43 @@ rule_sorts rule.NameTail front first = refl
 rule_sorts rule.NameTail front (later first) = refl
 rule_sorts rule.NameTail front (later (later first)) = refl
 rule_sorts rule.NameTail front (later (later (later m))) = elim m [ ]
+
+-- so does each alternative of the reader
+pub choice_sorts : (r : Rule) (front : List Symbol) → Among front (choices r) → run front (takes r) ≡ Some (gives r)
+choice_sorts rule.Item front first = refl
+choice_sorts rule.Item front (later first) = refl
+choice_sorts rule.Item front (later (later first)) = refl
+choice_sorts rule.Item front (later (later (later first))) = refl
+choice_sorts rule.Item front (later (later (later (later first)))) = refl
+choice_sorts rule.Item front (later (later (later (later (later first))))) = refl
+choice_sorts rule.Item front (later (later (later (later (later (later first)))))) = refl
+choice_sorts rule.Item front (later (later (later (later (later (later (later m))))))) = elim m [ ]
+choice_sorts rule.Params front first = refl
+choice_sorts rule.Params front (later first) = refl
+choice_sorts rule.Params front (later (later first)) = refl
+choice_sorts rule.Params front (later (later (later first))) = refl
+choice_sorts rule.Params front (later (later (later (later first)))) = refl
+choice_sorts rule.Params front (later (later (later (later (later m))))) = elim m [ ]
+choice_sorts rule.Simple front first = refl
+choice_sorts rule.Simple front (later first) = refl
+choice_sorts rule.Simple front (later (later first)) = refl
+choice_sorts rule.Simple front (later (later (later first))) = refl
+choice_sorts rule.Simple front (later (later (later (later first)))) = refl
+choice_sorts rule.Simple front (later (later (later (later (later first))))) = refl
+choice_sorts rule.Simple front (later (later (later (later (later (later first)))))) = refl
+choice_sorts rule.Simple front (later (later (later (later (later (later (later m))))))) = elim m [ ]
+choice_sorts rule.Lvalue front first = refl
+choice_sorts rule.Lvalue front (later first) = refl
+choice_sorts rule.Lvalue front (later (later first)) = refl
+choice_sorts rule.Lvalue front (later (later (later first))) = refl
+choice_sorts rule.Lvalue front (later (later (later (later m)))) = elim m [ ]
+choice_sorts rule.Unary front first = refl
+choice_sorts rule.Unary front (later first) = refl
+choice_sorts rule.Unary front (later (later first)) = refl
+choice_sorts rule.Unary front (later (later (later first))) = refl
+choice_sorts rule.Unary front (later (later (later (later first)))) = refl
+choice_sorts rule.Unary front (later (later (later (later (later m))))) = elim m [ ]
+choice_sorts r front m = rule_sorts r front m
 
 pub effect_sorts : (a : Action) (vs : List Value) (rest : List Sort) → sorts vs ≡ wants a ++ rest → sorts (value_effect a vs) ≡ makes a ++ rest
 effect_sorts action.Leave vs rest e = e
