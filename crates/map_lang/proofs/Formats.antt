@@ -80,7 +80,7 @@ more_unless : (k : Kind) {s : List Symbol} → MakesMore (Unless k ∷ s) → Ma
 more_unless k (behind m) = m
 
 -- what was read has a point of more than one part, or what is to come makes one
-Has : List Symbol → List Value → Type 0
+abbrev Has : List Symbol → List Value → Type 0
 Has symbols vs = (all_single vs ≡ false) ⊎ MakesMore symbols
 
 has_take : (k : Kind) (mark : Mark) (symbols : List Symbol) (v : Value) (vs : List Value) → sort_of v ≡ kept_sort k → Has (Take k mark ∷ symbols) vs
@@ -118,7 +118,7 @@ has_more w (expand {r = r} {alternative = front} {symbols = symbols} {state = st
     has_more w g (typed_expand r front symbols state.values m t) (has_expand r front symbols state.values m h)
 
 -- The symbols that the first format leads to make no further parts.
-is_first : Rule → Bool
+abbrev is_first : Rule → Bool
 is_first rule.Entries = false
 is_first rule.Entry = false
 is_first rule.Parts = false
@@ -127,7 +127,7 @@ is_first rule.ThirdPart = false
 is_first rule.FourthPart = false
 is_first r = true
 
-stays_first : Symbol → Bool
+abbrev stays_first : Symbol → Bool
 stays_first (Act a) = not (makes_more a)
 stays_first (Expand r) = is_first r
 stays_first x = true
