@@ -508,6 +508,7 @@ WHOLE = {
     "start": "what a whole source is",
     "expr_start": "what a whole expression of a mapping is",
     "map_start": "what a whole mapping is",
+    "first_map_start": "what a whole mapping of the first format is, where a point has one part",
 }
 
 
@@ -734,6 +735,14 @@ def write_shapes(g):
             typed.append(f"rule_sorts rule.{r} front {'(' + place(i) + ')' if i else 'first'} = refl")
         typed.append(f"rule_sorts rule.{r} front ({place(n, 'm')}) = elim m [ ]")
     typed = "\n".join(typed)
+    chosen = []
+    for r, rule in g.reader.items():
+        if r in g.rules:
+            n = len(rule.alternatives)
+            for i in range(n):
+                chosen.append(f"choice_sorts rule.{r} front {'(' + place(i) + ')' if i else 'first'} = refl")
+            chosen.append(f"choice_sorts rule.{r} front ({place(n, 'm')}) = elim m [ ]")
+    chosen = "\n".join(chosen + ["choice_sorts r front m = rule_sorts r front m"])
     effects = []
     for a, (finds, leaves) in g.actions.items():
         inner = "e"
@@ -802,6 +811,7 @@ use Rattle.c_grammar.specs.Rules.{{alternatives}}
 use Rattle.c_grammar.specs.Values.{{older}}
 use Rattle.c_grammar.specs.Effects.{{value_effect}}
 use Rattle.c_grammar.specs.Reading.{{Among, first, later}}
+use Rattle.c_reader.specs.Choices.{{choices}}
 use Rattle.c_reader.proofs.Sorts as sort
 use Rattle.c_reader.proofs.Sorts.{{Sort, wants, makes, takes, gives}}
 use Rattle.c_reader.proofs.SortRuns.{{sorts, run, older_sorts}}
@@ -809,6 +819,10 @@ use Rattle.c_reader.proofs.SortRuns.{{sorts, run, older_sorts}}
 -- each alternative turns what its rule finds into what the rule leaves
 pub rule_sorts : (r : Rule) (front : List Symbol) → Among front (alternatives r) → run front (takes r) ≡ Some (gives r)
 {typed}
+
+-- so does each alternative of the reader
+pub choice_sorts : (r : Rule) (front : List Symbol) → Among front (choices r) → run front (takes r) ≡ Some (gives r)
+{chosen}
 
 pub effect_sorts : (a : Action) (vs : List Value) (rest : List Sort) → sorts vs ≡ wants a ++ rest → sorts (value_effect a vs) ≡ makes a ++ rest
 {effects}

@@ -29,6 +29,7 @@ use Rattle.c_tree.specs.declared.token.TokenKind.TheVariants as token
 use Rattle.c_tree.specs.declared.mapping.Entry.{Entry}
 use Rattle.c_tree.specs.declared.mapping.Entry.TheVariants as entry
 use Rattle.c_tree.specs.declared.mapping.Mapping.{Mapping}
+use Rattle.c_tree.specs.declared.mapping.Part.{Part}
 use Rattle.c_grammar.specs.declared.kind.Kind.{Kind}
 use Rattle.c_grammar.specs.declared.kind.Kind.TheVariants as kind
 use Rattle.c_grammar.specs.declared.action.Action.{Action}
@@ -39,7 +40,7 @@ use Rattle.c_grammar.specs.declared.value.Value.{Value}
 use Rattle.c_grammar.specs.declared.value.Value.TheVariants as value
 use Rattle.c_grammar.specs.Marks.{keeps, opens, counts}
 use Rattle.c_grammar.specs.Tokens.{kind_of, map_kind_of, text_of, number_of, natural}
-use Rattle.c_grammar.specs.Values.{second, third, fourth, fifth, sixth, seventh, node, operand, statement, no_program, no_mapping, word_in, ty_in, operand_in, exprs_in, maybe_expr_in, stmt_in, stmts_in, maybe_stmt_in, fields_in, count_in, const_in, define_in, program_in, pt_in, fills_in, mapping_in}
+use Rattle.c_grammar.specs.Values.{second, third, fourth, fifth, sixth, seventh, node, operand, statement, no_program, no_mapping, word_in, ty_in, operand_in, exprs_in, maybe_expr_in, stmt_in, stmts_in, maybe_stmt_in, fields_in, count_in, const_in, define_in, program_in, pt_in, fills_in, part_in, parts_in, mapping_in}
 
 -- the word or text of the newest value, a token
 abbrev pub text : List Value → List ℕ
@@ -168,6 +169,14 @@ numbered name n = name ++ (codes "." ++ decimal n)
 abbrev pub renamed : Token → List ℕ → Token
 renamed t name = record { kind = token.Word name; at = t.at; len = t.len }
 
+-- the first part of a point, whose place and fills are newest: its function is the match of the old one
+abbrev pub first_part : List Value → Part
+first_part vs = record { function = None; point = pt_in (second vs); fills = fills_in vs }
+
+-- an added part, whose function, place and fills are newest
+abbrev pub added_part : List Value → Part
+added_part vs = record { function = Some (text (third vs)); point = pt_in (second vs); fills = fills_in vs }
+
 -- The mapping with one more entry.
 abbrev pub with_entry : Mapping → ℕ → Entry → Mapping
 with_entry m at x = record { entries = m.entries ++ record { at = at; it = x } ∷ [] }
@@ -273,12 +282,17 @@ value_effect action.FieldEntry vs =
 value_effect action.InitEntry vs =
     value.Mapping (with_entry (mapping_in (fourth vs)) (at (third vs)) (entry.Init (text (second vs)) (operand_in vs).expr)) ∷ fifth vs
 value_effect action.PointEntry vs =
-    value.Mapping (with_entry (mapping_in (sixth vs)) (at (fifth vs)) (entry.Point (text (fourth vs)) (pt_in (third vs)) (pt_in (second vs)) (fills_in vs))) ∷ seventh vs
+    value.Mapping (with_entry (mapping_in (fifth vs)) (at (fourth vs)) (entry.Point (text (third vs)) (pt_in (second vs)) (parts_in vs))) ∷ sixth vs
 value_effect action.CheckEntry vs = value.Mapping (with_entry (mapping_in (third vs)) (at (second vs)) (entry.Check (operand_in vs).expr)) ∷ fourth vs
 value_effect action.EntryPt vs = value.Pt (record { kind = place.Entry; number = 1 }) ∷ vs
 value_effect action.NumberPt vs = value.Pt (record { kind = place_of (meaning (second vs)); number = number vs }) ∷ third vs
 value_effect action.NoFills vs = value.Fills [] ∷ vs
 value_effect action.MoreFill vs = value.Fills (fills_in (third vs) ++ record { slot = text (second vs); expr = (operand_in vs).expr } ∷ []) ∷ fourth vs
+value_effect action.OnePart vs = value.Parts (first_part vs ∷ []) ∷ third vs
+value_effect action.TwoParts vs = value.Parts (first_part (second vs) ∷ part_in vs ∷ []) ∷ fourth vs
+value_effect action.ThreeParts vs = value.Parts (first_part (third vs) ∷ part_in (second vs) ∷ part_in vs ∷ []) ∷ fifth vs
+value_effect action.FourParts vs = value.Parts (first_part (fourth vs) ∷ part_in (third vs) ∷ part_in (second vs) ∷ part_in vs ∷ []) ∷ sixth vs
+value_effect action.AddPart vs = value.Part (added_part vs) ∷ fourth vs
 value_effect action.HiddenName vs = value.Word (renamed (word_in (second vs)) (numbered (text (second vs)) (number vs))) ∷ third vs
 value_effect action.TempName vs = value.Word (renamed (word_in vs) (numbered [] (number vs))) ∷ second vs
 -- those that leave the values

@@ -348,12 +348,16 @@ alternatives rule.Entries =
     (Expand rule.Entry ∷ Take kind.Semicolon Skip ∷ Expand rule.Entries ∷ [])
     ∷ []
     ∷ []
--- Entry [Mapping -> Mapping] = Side AnyName "->" Target | "field"$ AnyName "." AnyName "=" @Outer MapExpr @FieldEntry | "init"$ AnyName "=" @Outer MapExpr @InitEntry | "point"$ AnyName Pt "->" Pt Fills @PointEntry | "check"$ @Outer MapExpr @CheckEntry
+-- Entry [Mapping -> Mapping] = OtherEntry | "point"$ AnyName Pt "->" Parts @PointEntry
 alternatives rule.Entry =
+    (Expand rule.OtherEntry ∷ [])
+    ∷ (Take kind.PointWord Keep ∷ Expand rule.AnyName ∷ Expand rule.Pt ∷ Take kind.Arrow Skip ∷ Expand rule.Parts ∷ Act action.PointEntry ∷ [])
+    ∷ []
+-- OtherEntry [Mapping -> Mapping] = Side AnyName "->" Target | "field"$ AnyName "." AnyName "=" @Outer MapExpr @FieldEntry | "init"$ AnyName "=" @Outer MapExpr @InitEntry | "check"$ @Outer MapExpr @CheckEntry
+alternatives rule.OtherEntry =
     (Expand rule.Side ∷ Expand rule.AnyName ∷ Take kind.Arrow Skip ∷ Expand rule.Target ∷ [])
     ∷ (Take kind.FieldWord Keep ∷ Expand rule.AnyName ∷ Take kind.Dot Skip ∷ Expand rule.AnyName ∷ Take kind.Equal Skip ∷ Act action.Outer ∷ Expand rule.MapExpr ∷ Act action.FieldEntry ∷ [])
     ∷ (Take kind.InitWord Keep ∷ Expand rule.AnyName ∷ Take kind.Equal Skip ∷ Act action.Outer ∷ Expand rule.MapExpr ∷ Act action.InitEntry ∷ [])
-    ∷ (Take kind.PointWord Keep ∷ Expand rule.AnyName ∷ Expand rule.Pt ∷ Take kind.Arrow Skip ∷ Expand rule.Pt ∷ Expand rule.Fills ∷ Act action.PointEntry ∷ [])
     ∷ (Take kind.CheckWord Keep ∷ Act action.Outer ∷ Expand rule.MapExpr ∷ Act action.CheckEntry ∷ [])
     ∷ []
 -- Side [-> Word] = "function"$ | "struct"$ | "global"$ | "mutex"$
@@ -398,6 +402,43 @@ alternatives rule.FillName =
 alternatives rule.FillNumber =
     (Take kind.Dot Skip ∷ Take kind.Number Keep ∷ Act action.HiddenName ∷ [])
     ∷ []
+    ∷ []
+-- Parts [-> Parts] = Pt Fills SecondPart
+alternatives rule.Parts =
+    (Expand rule.Pt ∷ Expand rule.Fills ∷ Expand rule.SecondPart ∷ [])
+    ∷ []
+-- SecondPart [Pt Fills -> Parts] = "+" AddedPart ThirdPart | @OnePart
+alternatives rule.SecondPart =
+    (Take kind.Plus Skip ∷ Expand rule.AddedPart ∷ Expand rule.ThirdPart ∷ [])
+    ∷ (Act action.OnePart ∷ [])
+    ∷ []
+-- ThirdPart [Pt Fills Part -> Parts] = "+" AddedPart FourthPart | @TwoParts
+alternatives rule.ThirdPart =
+    (Take kind.Plus Skip ∷ Expand rule.AddedPart ∷ Expand rule.FourthPart ∷ [])
+    ∷ (Act action.TwoParts ∷ [])
+    ∷ []
+-- FourthPart [Pt Fills Part Part -> Parts] = "+" AddedPart @FourParts | @ThreeParts
+alternatives rule.FourthPart =
+    (Take kind.Plus Skip ∷ Expand rule.AddedPart ∷ Act action.FourParts ∷ [])
+    ∷ (Act action.ThreeParts ∷ [])
+    ∷ []
+-- AddedPart [-> Part] = AnyName Pt Fills @AddPart
+alternatives rule.AddedPart =
+    (Expand rule.AnyName ∷ Expand rule.Pt ∷ Expand rule.Fills ∷ Act action.AddPart ∷ [])
+    ∷ []
+-- FirstEntries [Mapping -> Mapping] = FirstEntry ";" FirstEntries |
+alternatives rule.FirstEntries =
+    (Expand rule.FirstEntry ∷ Take kind.Semicolon Skip ∷ Expand rule.FirstEntries ∷ [])
+    ∷ []
+    ∷ []
+-- FirstEntry [Mapping -> Mapping] = OtherEntry | "point"$ AnyName Pt "->" OnlyPart @PointEntry
+alternatives rule.FirstEntry =
+    (Expand rule.OtherEntry ∷ [])
+    ∷ (Take kind.PointWord Keep ∷ Expand rule.AnyName ∷ Expand rule.Pt ∷ Take kind.Arrow Skip ∷ Expand rule.OnlyPart ∷ Act action.PointEntry ∷ [])
+    ∷ []
+-- OnlyPart [-> Parts] = Pt Fills @OnePart
+alternatives rule.OnlyPart =
+    (Expand rule.Pt ∷ Expand rule.Fills ∷ Act action.OnePart ∷ [])
     ∷ []
 -- Mul [-> Operand] = Unary MulTail
 alternatives rule.Mul =
@@ -715,3 +756,7 @@ expr_start = Expand rule.MapExpr ∷ []
 -- what a whole mapping is
 abbrev pub map_start : List Symbol
 map_start = Act action.StartMapping ∷ Expand rule.Entries ∷ []
+
+-- what a whole mapping of the first format is, where a point has one part
+abbrev pub first_map_start : List Symbol
+first_map_start = Act action.StartMapping ∷ Expand rule.FirstEntries ∷ []

@@ -21,6 +21,7 @@ use Rattle.c_tree.specs.declared.program.Program.{Program}
 use Rattle.c_tree.specs.declared.place.PlaceKind.TheVariants as place
 use Rattle.c_tree.specs.declared.mapping.Fill.{Fill}
 use Rattle.c_tree.specs.declared.mapping.Mapping.{Mapping}
+use Rattle.c_tree.specs.declared.mapping.Part.{Part}
 use Rattle.c_tree.specs.declared.mapping.Pt.{Pt}
 use Rattle.c_grammar.specs.declared.value.Operand.{Operand}
 use Rattle.c_grammar.specs.declared.value.Value.{Value}
@@ -149,6 +150,16 @@ pt_in _ = record { kind = place.Entry; number = 1 }
 abbrev pub fills_in : List Value → List Fill
 fills_in (value.Fills xs ∷ vs) = xs
 fills_in _ = []
+
+-- the added part of a point that is the newest value
+abbrev pub part_in : List Value → Part
+part_in (value.Part x ∷ vs) = x
+part_in _ = record { function = Some []; point = record { kind = place.Entry; number = 1 }; fills = [] }
+
+-- the parts of a point that are the newest value
+abbrev pub parts_in : List Value → List Part
+parts_in (value.Parts xs ∷ vs) = xs
+parts_in _ = []
 
 -- the mapping that is the newest value
 abbrev pub mapping_in : List Value → Mapping

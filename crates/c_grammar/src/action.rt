@@ -156,7 +156,7 @@ pub enum Action {
     FieldEntry,
     /// `Mapping Word Word Operand -> Mapping`
     InitEntry,
-    /// `Mapping Word Word Pt Pt Fills -> Mapping`
+    /// `Mapping Word Word Pt Parts -> Mapping`
     PointEntry,
     /// `Mapping Word Operand -> Mapping`
     CheckEntry,
@@ -168,6 +168,16 @@ pub enum Action {
     NoFills,
     /// `Fills Word Operand -> Fills`
     MoreFill,
+    /// `Pt Fills -> Parts`
+    OnePart,
+    /// `Pt Fills Part -> Parts`
+    TwoParts,
+    /// `Pt Fills Part Part -> Parts`
+    ThreeParts,
+    /// `Pt Fills Part Part Part -> Parts`
+    FourParts,
+    /// `Word Pt Fills -> Part`
+    AddPart,
     /// `Word Word -> Word`
     HiddenName,
     /// `Word -> Word`

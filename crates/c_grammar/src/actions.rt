@@ -13,6 +13,7 @@ mod entry;
 mod expr;
 mod fill;
 mod item;
+mod part;
 mod pop;
 mod sign;
 mod simple;

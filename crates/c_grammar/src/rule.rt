@@ -175,10 +175,12 @@ pub enum Rule {
     // Mappings.
     /// `Entries [Mapping -> Mapping] = Entry ";" Entries |`
     Entries,
-    /// `Entry [Mapping -> Mapping] = Side AnyName "->" Target | "field"$ AnyName "." AnyName "="
-    /// @Outer MapExpr @FieldEntry | "init"$ AnyName "=" @Outer MapExpr @InitEntry | "point"$
-    /// AnyName Pt "->" Pt Fills @PointEntry | "check"$ @Outer MapExpr @CheckEntry`
+    /// `Entry [Mapping -> Mapping] = OtherEntry | "point"$ AnyName Pt "->" Parts @PointEntry`
     Entry,
+    /// `OtherEntry [Mapping -> Mapping] = Side AnyName "->" Target | "field"$ AnyName "." AnyName
+    /// "=" @Outer MapExpr @FieldEntry | "init"$ AnyName "=" @Outer MapExpr @InitEntry | "check"$
+    /// @Outer MapExpr @CheckEntry`
+    OtherEntry,
     /// `Side [-> Word] = "function"$ | "struct"$ | "global"$ | "mutex"$`
     Side,
     /// `Target [Mapping Word Word -> Mapping] = NewName @MatchEntry | "none" @UnmatchedEntry`
@@ -195,6 +197,27 @@ pub enum Rule {
     FillName,
     /// `FillNumber [Word -> Word] = "." NUMBER$ @HiddenName |`
     FillNumber,
+
+    // One to four parts of a point, each but the first with its function.
+    /// `Parts [-> Parts] = Pt Fills SecondPart`
+    Parts,
+    /// `SecondPart [Pt Fills -> Parts] = "+" AddedPart ThirdPart | @OnePart`
+    SecondPart,
+    /// `ThirdPart [Pt Fills Part -> Parts] = "+" AddedPart FourthPart | @TwoParts`
+    ThirdPart,
+    /// `FourthPart [Pt Fills Part Part -> Parts] = "+" AddedPart @FourParts | @ThreeParts`
+    FourthPart,
+    /// `AddedPart [-> Part] = AnyName Pt Fills @AddPart`
+    AddedPart,
+
+    // Mappings of the first format, where a point has one part.
+    /// `FirstEntries [Mapping -> Mapping] = FirstEntry ";" FirstEntries |`
+    FirstEntries,
+    /// `FirstEntry [Mapping -> Mapping] = OtherEntry | "point"$ AnyName Pt "->" OnlyPart
+    /// @PointEntry`
+    FirstEntry,
+    /// `OnlyPart [-> Parts] = Pt Fills @OnePart`
+    OnlyPart,
     /// `Mul [-> Operand] = Unary MulTail`
     Mul,
     /// `MulTail [Operand -> Operand] = MulOp Unary @Bin MulTail |`

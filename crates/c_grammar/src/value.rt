@@ -1,7 +1,8 @@
 //! The values that are made while a text is read.
 
 use c_tree::{
-    At, Boxed, Const, Count, Define, Expr, Field, Fill, Mapping, Program, Pt, Row, Stmt, Token, Ty,
+    At, Boxed, Const, Count, Define, Expr, Field, Fill, Mapping, Part, Program, Pt, Row, Stmt,
+    Token, Ty,
 };
 
 /// An expression, with the offset in bytes of the first token that was read for it: of a bracket
@@ -38,7 +39,11 @@ pub enum Value {
     Program(Program),
     /// A point of a mapping.
     Pt(Pt),
-    /// What the new slots of a point are filled with.
+    /// What the new slots of a part are filled with.
     Fills(Row<Fill>),
+    /// An added part of a point.
+    Part(Part),
+    /// The parts of a point.
+    Parts(Row<Part>),
     Mapping(Mapping),
 }

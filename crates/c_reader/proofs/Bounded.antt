@@ -35,7 +35,8 @@ pub data Bounded (values : List Value) : List Symbol → State → ℕ → List 
   takes_one : {k : Kind} {mark : Mark} {symbols : List Symbol} {state : State} {low : ℕ} {p : Piece} {ps : List Piece}
       → p.kind ≡ k → low ≤ depth_limit k → (with_token mark p.value state).operators ≤ operator_limit
       → Bounded values symbols (with_token mark p.value state) (least symbols (with_token mark p.value state).depth) ps → Bounded values (Take k mark ∷ symbols) state low (p ∷ ps)
-  passes_on : {k : Kind} {symbols : List Symbol} {state : State} {low : ℕ} {ps : List Piece} → Bounded values symbols state low ps → Bounded values (Unless k ∷ symbols) state low ps
+  passes_on : {k : Kind} {symbols : List Symbol} {state : State} {low : ℕ} {ps : List Piece}
+      → NextIsNot k ps → Bounded values symbols state low ps → Bounded values (Unless k ∷ symbols) state low ps
   acts : {a : Action} {symbols : List Symbol} {state : State} {low : ℕ} {ps : List Piece} → Bounded values symbols (effect a state) low ps → Bounded values (Act a ∷ symbols) state low ps
   expands : {r : Rule} {front symbols : List Symbol} {state : State} {low : ℕ} {ps : List Piece}
       → Among front (choices r) → Bounded values (front ++ symbols) state low ps → Bounded values (Expand r ∷ symbols) state low ps
@@ -51,7 +52,7 @@ abbrev Through : List Symbol → State → List Symbol → State → List Piece 
 Through old past symbols state [] = Unit {0}
 Through old past symbols state (p ∷ ps) = Came old past symbols state p
 
-onward : (old : List Symbol) (past : State) (s : List Symbol) (v : State) (s' : List Symbol) (v' : State) (p : Piece)
+pub onward : (old : List Symbol) (past : State) (s : List Symbol) (v : State) (s' : List Symbol) (v' : State) (p : Piece)
     → Came old past s v p → Changed (Some p.kind) s v s' v' → v'.depth ≤ v.depth → v'.operators ≤ v.operators → Came old past s' v' p
 onward old past s v s' v' p t c d o = record {
   leads = leads_trans (Some p.kind) old past s v s' v' t.leads c.leads;
@@ -108,7 +109,7 @@ module _ (begin : List Symbol) (all : List Piece) (values : List Value) (sound :
       (subst (λ i. FollowsAt begin all i symbols (with_token mark p.value state)) (sym (length_more front p)) next)
       (begins_there symbols (with_token mark p.value state) ps taken.fits) g)
   walk front old past e f t (pass {kind = k} {symbols = symbols} {state = state} {ps = ps} n g) =
-      passes_on (walk front old past e f (go ps n t) g)
+      passes_on n (walk front old past e f (go ps n t) g)
     where
       go : (ps : List Piece) → NextIsNot k ps → Through old past (Unless k ∷ symbols) state ps → Through old past symbols state ps
       go [] n t = tt
@@ -127,6 +128,14 @@ module _ (begin : List Symbol) (all : List Piece) (values : List Value) (sound :
       go (p ∷ ps) t g =
           let found = chosen all_kinds kind_place choices first_kinds blocked_kinds used_rules tables_good tables_good_end {r = r} {front = body} symbols t.fits m g in
           onward old past (Expand r ∷ symbols) state (body ++ symbols) state p t (expand_changed (Some p.kind) r symbols state body t.fits found) (omega arith) (omega arith)
+
+-- What goes so goes.
+pub goes_so : {values : List Value} {symbols : List Symbol} {state : State} {low : ℕ} {ps : List Piece} → Bounded values symbols state low ps → Goes choices (Whole values) symbols state ps
+goes_so (done e) = end e
+goes_so (takes_one e le few g) = take_token e (goes_so g)
+goes_so (passes_on n g) = pass n (goes_so g)
+goes_so (acts g) = act (goes_so g)
+goes_so (expands m g) = expand m (goes_so g)
 
 -- A reading goes so.
 pub bounded : (begin : List Symbol) (ps : List Piece) (values : List Value) → FitsReader begin → IsReading begin ps values → Bounded values begin empty (least begin 0) ps

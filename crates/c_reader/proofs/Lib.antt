@@ -4,15 +4,16 @@ pub mod LeftOut
 pub mod Tables
 pub mod Turns
 mod Factoring
-mod Sorts
-mod SortRuns
-mod SortTables
+pub mod Sorts
+pub mod SortRuns
+pub mod SortTables
 pub mod Trees
 pub mod Depths
 pub mod Outcomes
 pub mod Keeps
 pub mod Limits
 pub mod Bounded
+pub mod BoundedReads
 pub mod Kept
 pub mod Sources
 pub mod Answered

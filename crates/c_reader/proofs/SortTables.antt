@@ -11,6 +11,7 @@ use Rattle.c_grammar.specs.Rules.{alternatives}
 use Rattle.c_grammar.specs.Values.{older}
 use Rattle.c_grammar.specs.Effects.{value_effect}
 use Rattle.c_grammar.specs.Reading.{Among, first, later}
+use Rattle.c_reader.specs.Choices.{choices}
 use Rattle.c_reader.proofs.Sorts as sort
 use Rattle.c_reader.proofs.Sorts.{Sort, wants, makes, takes, gives}
 use Rattle.c_reader.proofs.SortRuns.{sorts, run, older_sorts}
@@ -242,10 +243,12 @@ rule_sorts rule.Entries front (later first) = refl
 rule_sorts rule.Entries front (later (later m)) = elim m [ ]
 rule_sorts rule.Entry front first = refl
 rule_sorts rule.Entry front (later first) = refl
-rule_sorts rule.Entry front (later (later first)) = refl
-rule_sorts rule.Entry front (later (later (later first))) = refl
-rule_sorts rule.Entry front (later (later (later (later first)))) = refl
-rule_sorts rule.Entry front (later (later (later (later (later m))))) = elim m [ ]
+rule_sorts rule.Entry front (later (later m)) = elim m [ ]
+rule_sorts rule.OtherEntry front first = refl
+rule_sorts rule.OtherEntry front (later first) = refl
+rule_sorts rule.OtherEntry front (later (later first)) = refl
+rule_sorts rule.OtherEntry front (later (later (later first))) = refl
+rule_sorts rule.OtherEntry front (later (later (later (later m)))) = elim m [ ]
 rule_sorts rule.Side front first = refl
 rule_sorts rule.Side front (later first) = refl
 rule_sorts rule.Side front (later (later first)) = refl
@@ -273,6 +276,27 @@ rule_sorts rule.FillName front (later (later m)) = elim m [ ]
 rule_sorts rule.FillNumber front first = refl
 rule_sorts rule.FillNumber front (later first) = refl
 rule_sorts rule.FillNumber front (later (later m)) = elim m [ ]
+rule_sorts rule.Parts front first = refl
+rule_sorts rule.Parts front (later m) = elim m [ ]
+rule_sorts rule.SecondPart front first = refl
+rule_sorts rule.SecondPart front (later first) = refl
+rule_sorts rule.SecondPart front (later (later m)) = elim m [ ]
+rule_sorts rule.ThirdPart front first = refl
+rule_sorts rule.ThirdPart front (later first) = refl
+rule_sorts rule.ThirdPart front (later (later m)) = elim m [ ]
+rule_sorts rule.FourthPart front first = refl
+rule_sorts rule.FourthPart front (later first) = refl
+rule_sorts rule.FourthPart front (later (later m)) = elim m [ ]
+rule_sorts rule.AddedPart front first = refl
+rule_sorts rule.AddedPart front (later m) = elim m [ ]
+rule_sorts rule.FirstEntries front first = refl
+rule_sorts rule.FirstEntries front (later first) = refl
+rule_sorts rule.FirstEntries front (later (later m)) = elim m [ ]
+rule_sorts rule.FirstEntry front first = refl
+rule_sorts rule.FirstEntry front (later first) = refl
+rule_sorts rule.FirstEntry front (later (later m)) = elim m [ ]
+rule_sorts rule.OnlyPart front first = refl
+rule_sorts rule.OnlyPart front (later m) = elim m [ ]
 rule_sorts rule.Mul front first = refl
 rule_sorts rule.Mul front (later m) = elim m [ ]
 rule_sorts rule.MulTail front first = refl
@@ -450,6 +474,43 @@ rule_sorts rule.NameTail front (later first) = refl
 rule_sorts rule.NameTail front (later (later first)) = refl
 rule_sorts rule.NameTail front (later (later (later m))) = elim m [ ]
 
+-- so does each alternative of the reader
+pub choice_sorts : (r : Rule) (front : List Symbol) → Among front (choices r) → run front (takes r) ≡ Some (gives r)
+choice_sorts rule.Item front first = refl
+choice_sorts rule.Item front (later first) = refl
+choice_sorts rule.Item front (later (later first)) = refl
+choice_sorts rule.Item front (later (later (later first))) = refl
+choice_sorts rule.Item front (later (later (later (later first)))) = refl
+choice_sorts rule.Item front (later (later (later (later (later first))))) = refl
+choice_sorts rule.Item front (later (later (later (later (later (later first)))))) = refl
+choice_sorts rule.Item front (later (later (later (later (later (later (later m))))))) = elim m [ ]
+choice_sorts rule.Params front first = refl
+choice_sorts rule.Params front (later first) = refl
+choice_sorts rule.Params front (later (later first)) = refl
+choice_sorts rule.Params front (later (later (later first))) = refl
+choice_sorts rule.Params front (later (later (later (later first)))) = refl
+choice_sorts rule.Params front (later (later (later (later (later m))))) = elim m [ ]
+choice_sorts rule.Simple front first = refl
+choice_sorts rule.Simple front (later first) = refl
+choice_sorts rule.Simple front (later (later first)) = refl
+choice_sorts rule.Simple front (later (later (later first))) = refl
+choice_sorts rule.Simple front (later (later (later (later first)))) = refl
+choice_sorts rule.Simple front (later (later (later (later (later first))))) = refl
+choice_sorts rule.Simple front (later (later (later (later (later (later first)))))) = refl
+choice_sorts rule.Simple front (later (later (later (later (later (later (later m))))))) = elim m [ ]
+choice_sorts rule.Lvalue front first = refl
+choice_sorts rule.Lvalue front (later first) = refl
+choice_sorts rule.Lvalue front (later (later first)) = refl
+choice_sorts rule.Lvalue front (later (later (later first))) = refl
+choice_sorts rule.Lvalue front (later (later (later (later m)))) = elim m [ ]
+choice_sorts rule.Unary front first = refl
+choice_sorts rule.Unary front (later first) = refl
+choice_sorts rule.Unary front (later (later first)) = refl
+choice_sorts rule.Unary front (later (later (later first))) = refl
+choice_sorts rule.Unary front (later (later (later (later first)))) = refl
+choice_sorts rule.Unary front (later (later (later (later (later m))))) = elim m [ ]
+choice_sorts r front m = rule_sorts r front m
+
 pub effect_sorts : (a : Action) (vs : List Value) (rest : List Sort) → sorts vs ≡ wants a ++ rest → sorts (value_effect a vs) ≡ makes a ++ rest
 effect_sorts action.Leave vs rest e = e
 effect_sorts action.Outer vs rest e = e
@@ -527,11 +588,16 @@ effect_sorts action.MatchEntry vs rest e = ap (λ x. sort.Mapping ∷ x) (older_
 effect_sorts action.UnmatchedEntry vs rest e = ap (λ x. sort.Mapping ∷ x) (older_sorts _ _ _ (older_sorts _ _ _ (older_sorts _ _ _ e)))
 effect_sorts action.FieldEntry vs rest e = ap (λ x. sort.Mapping ∷ x) (older_sorts _ _ _ (older_sorts _ _ _ (older_sorts _ _ _ (older_sorts _ _ _ (older_sorts _ _ _ e)))))
 effect_sorts action.InitEntry vs rest e = ap (λ x. sort.Mapping ∷ x) (older_sorts _ _ _ (older_sorts _ _ _ (older_sorts _ _ _ (older_sorts _ _ _ e))))
-effect_sorts action.PointEntry vs rest e = ap (λ x. sort.Mapping ∷ x) (older_sorts _ _ _ (older_sorts _ _ _ (older_sorts _ _ _ (older_sorts _ _ _ (older_sorts _ _ _ (older_sorts _ _ _ e))))))
+effect_sorts action.PointEntry vs rest e = ap (λ x. sort.Mapping ∷ x) (older_sorts _ _ _ (older_sorts _ _ _ (older_sorts _ _ _ (older_sorts _ _ _ (older_sorts _ _ _ e)))))
 effect_sorts action.CheckEntry vs rest e = ap (λ x. sort.Mapping ∷ x) (older_sorts _ _ _ (older_sorts _ _ _ (older_sorts _ _ _ e)))
 effect_sorts action.EntryPt vs rest e = ap (λ x. sort.Pt ∷ x) (e)
 effect_sorts action.NumberPt vs rest e = ap (λ x. sort.Pt ∷ x) (older_sorts _ _ _ (older_sorts _ _ _ e))
 effect_sorts action.NoFills vs rest e = ap (λ x. sort.Fills ∷ x) (e)
 effect_sorts action.MoreFill vs rest e = ap (λ x. sort.Fills ∷ x) (older_sorts _ _ _ (older_sorts _ _ _ (older_sorts _ _ _ e)))
+effect_sorts action.OnePart vs rest e = ap (λ x. sort.Parts ∷ x) (older_sorts _ _ _ (older_sorts _ _ _ e))
+effect_sorts action.TwoParts vs rest e = ap (λ x. sort.Parts ∷ x) (older_sorts _ _ _ (older_sorts _ _ _ (older_sorts _ _ _ e)))
+effect_sorts action.ThreeParts vs rest e = ap (λ x. sort.Parts ∷ x) (older_sorts _ _ _ (older_sorts _ _ _ (older_sorts _ _ _ (older_sorts _ _ _ e))))
+effect_sorts action.FourParts vs rest e = ap (λ x. sort.Parts ∷ x) (older_sorts _ _ _ (older_sorts _ _ _ (older_sorts _ _ _ (older_sorts _ _ _ (older_sorts _ _ _ e)))))
+effect_sorts action.AddPart vs rest e = ap (λ x. sort.Part ∷ x) (older_sorts _ _ _ (older_sorts _ _ _ (older_sorts _ _ _ e)))
 effect_sorts action.HiddenName vs rest e = ap (λ x. sort.Word ∷ x) (older_sorts _ _ _ (older_sorts _ _ _ e))
 effect_sorts action.TempName vs rest e = ap (λ x. sort.Word ∷ x) (older_sorts _ _ _ e)

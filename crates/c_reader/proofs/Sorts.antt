@@ -26,6 +26,8 @@ pub data Sort : Type 0 where
   Program : Sort
   Pt : Sort
   Fills : Sort
+  Part : Sort
+  Parts : Sort
   Mapping : Sort
 
 abbrev pub sort_of : Value → Sort
@@ -44,6 +46,8 @@ sort_of (value.Define x) = Define
 sort_of (value.Program x) = Program
 sort_of (value.Pt x) = Pt
 sort_of (value.Fills x) = Fills
+sort_of (value.Part x) = Part
+sort_of (value.Parts x) = Parts
 sort_of (value.Mapping x) = Mapping
 
 -- the sort of a token that is kept
@@ -128,12 +132,17 @@ wants action.MatchEntry = Word ∷ Word ∷ Word ∷ Mapping ∷ []
 wants action.UnmatchedEntry = Word ∷ Word ∷ Mapping ∷ []
 wants action.FieldEntry = Operand ∷ Word ∷ Word ∷ Word ∷ Mapping ∷ []
 wants action.InitEntry = Operand ∷ Word ∷ Word ∷ Mapping ∷ []
-wants action.PointEntry = Fills ∷ Pt ∷ Pt ∷ Word ∷ Word ∷ Mapping ∷ []
+wants action.PointEntry = Parts ∷ Pt ∷ Word ∷ Word ∷ Mapping ∷ []
 wants action.CheckEntry = Operand ∷ Word ∷ Mapping ∷ []
 wants action.EntryPt = []
 wants action.NumberPt = Word ∷ Word ∷ []
 wants action.NoFills = []
 wants action.MoreFill = Operand ∷ Word ∷ Fills ∷ []
+wants action.OnePart = Fills ∷ Pt ∷ []
+wants action.TwoParts = Part ∷ Fills ∷ Pt ∷ []
+wants action.ThreeParts = Part ∷ Part ∷ Fills ∷ Pt ∷ []
+wants action.FourParts = Part ∷ Part ∷ Part ∷ Fills ∷ Pt ∷ []
+wants action.AddPart = Fills ∷ Pt ∷ Word ∷ []
 wants action.HiddenName = Word ∷ Word ∷ []
 wants action.TempName = Word ∷ []
 
@@ -220,6 +229,11 @@ makes action.EntryPt = Pt ∷ []
 makes action.NumberPt = Pt ∷ []
 makes action.NoFills = Fills ∷ []
 makes action.MoreFill = Fills ∷ []
+makes action.OnePart = Parts ∷ []
+makes action.TwoParts = Parts ∷ []
+makes action.ThreeParts = Parts ∷ []
+makes action.FourParts = Parts ∷ []
+makes action.AddPart = Part ∷ []
 makes action.HiddenName = Word ∷ []
 makes action.TempName = Word ∷ []
 
@@ -282,6 +296,7 @@ takes rule.AnyName = []
 takes rule.NewName = []
 takes rule.Entries = Mapping ∷ []
 takes rule.Entry = Mapping ∷ []
+takes rule.OtherEntry = Mapping ∷ []
 takes rule.Side = []
 takes rule.Target = Word ∷ Word ∷ Mapping ∷ []
 takes rule.Pt = []
@@ -290,6 +305,14 @@ takes rule.Fills = []
 takes rule.FillList = Fills ∷ []
 takes rule.FillName = []
 takes rule.FillNumber = Word ∷ []
+takes rule.Parts = []
+takes rule.SecondPart = Fills ∷ Pt ∷ []
+takes rule.ThirdPart = Part ∷ Fills ∷ Pt ∷ []
+takes rule.FourthPart = Part ∷ Part ∷ Fills ∷ Pt ∷ []
+takes rule.AddedPart = []
+takes rule.FirstEntries = Mapping ∷ []
+takes rule.FirstEntry = Mapping ∷ []
+takes rule.OnlyPart = []
 takes rule.Mul = []
 takes rule.MulTail = Operand ∷ []
 takes rule.Add = []
@@ -414,6 +437,7 @@ gives rule.AnyName = Word ∷ []
 gives rule.NewName = Word ∷ []
 gives rule.Entries = Mapping ∷ []
 gives rule.Entry = Mapping ∷ []
+gives rule.OtherEntry = Mapping ∷ []
 gives rule.Side = Word ∷ []
 gives rule.Target = Mapping ∷ []
 gives rule.Pt = Pt ∷ []
@@ -422,6 +446,14 @@ gives rule.Fills = Fills ∷ []
 gives rule.FillList = Fills ∷ []
 gives rule.FillName = Word ∷ []
 gives rule.FillNumber = Word ∷ []
+gives rule.Parts = Parts ∷ []
+gives rule.SecondPart = Parts ∷ []
+gives rule.ThirdPart = Parts ∷ []
+gives rule.FourthPart = Parts ∷ []
+gives rule.AddedPart = Part ∷ []
+gives rule.FirstEntries = Mapping ∷ []
+gives rule.FirstEntry = Mapping ∷ []
+gives rule.OnlyPart = Parts ∷ []
 gives rule.Mul = Operand ∷ []
 gives rule.MulTail = Operand ∷ []
 gives rule.Add = Operand ∷ []
@@ -504,10 +536,12 @@ sort_code Define = 11
 sort_code Program = 12
 sort_code Pt = 13
 sort_code Fills = 14
-sort_code Mapping = 15
+sort_code Part = 15
+sort_code Parts = 16
+sort_code Mapping = 17
 
 abbrev pub sort_from : ℕ → Option Sort
-sort_from n = cond (nat_eq n 0) (Some Word) (cond (nat_eq n 1) (Some Ty) (cond (nat_eq n 2) (Some Operand) (cond (nat_eq n 3) (Some Exprs) (cond (nat_eq n 4) (Some MaybeExpr) (cond (nat_eq n 5) (Some Stmt) (cond (nat_eq n 6) (Some Stmts) (cond (nat_eq n 7) (Some MaybeStmt) (cond (nat_eq n 8) (Some Fields) (cond (nat_eq n 9) (Some Count) (cond (nat_eq n 10) (Some Const) (cond (nat_eq n 11) (Some Define) (cond (nat_eq n 12) (Some Program) (cond (nat_eq n 13) (Some Pt) (cond (nat_eq n 14) (Some Fills) (Some Mapping)))))))))))))))
+sort_from n = cond (nat_eq n 0) (Some Word) (cond (nat_eq n 1) (Some Ty) (cond (nat_eq n 2) (Some Operand) (cond (nat_eq n 3) (Some Exprs) (cond (nat_eq n 4) (Some MaybeExpr) (cond (nat_eq n 5) (Some Stmt) (cond (nat_eq n 6) (Some Stmts) (cond (nat_eq n 7) (Some MaybeStmt) (cond (nat_eq n 8) (Some Fields) (cond (nat_eq n 9) (Some Count) (cond (nat_eq n 10) (Some Const) (cond (nat_eq n 11) (Some Define) (cond (nat_eq n 12) (Some Program) (cond (nat_eq n 13) (Some Pt) (cond (nat_eq n 14) (Some Fills) (cond (nat_eq n 15) (Some Part) (cond (nat_eq n 16) (Some Parts) (Some Mapping)))))))))))))))))
 
 pub sort_back : (s : Sort) → sort_from (sort_code s) ≡ Some s
 sort_back Word = refl
@@ -525,4 +559,6 @@ sort_back Define = refl
 sort_back Program = refl
 sort_back Pt = refl
 sort_back Fills = refl
+sort_back Part = refl
+sort_back Parts = refl
 sort_back Mapping = refl

@@ -6,7 +6,7 @@ use Rattle.c_grammar.specs.declared.symbol.Symbol.TheVariants.{Take, Unless, Act
 use Rattle.c_grammar.specs.declared.value.Value.{Value}
 use Rattle.c_grammar.specs.declared.value.Value.TheVariants as value
 use Rattle.c_grammar.specs.Marks.{keeps}
-use Rattle.c_grammar.specs.Rules.{alternatives, start, expr_start, map_start}
+use Rattle.c_grammar.specs.Rules.{alternatives, start, expr_start, map_start, first_map_start}
 use Rattle.c_grammar.specs.Values.{program_in, operand_in, mapping_in}
 use Rattle.c_grammar.specs.Effects.{State, empty}
 use Rattle.c_grammar.specs.Pieces.{Piece}
@@ -22,7 +22,7 @@ AllKept [] = Unit {0}
 AllKept (p ∷ ps) = (sort_of p.value ≡ kept_sort p.kind) × AllKept ps
 
 -- the symbols lead from these sorts to one value of the last
-abbrev Typed : Sort → List Symbol → List Sort → Type 0
+abbrev pub Typed : Sort → List Symbol → List Sort → Type 0
 Typed last [] found = found ≡ last ∷ []
 Typed last (Take k mark ∷ symbols) found = Typed last symbols (cond (keeps mark) (kept_sort k ∷ found) found)
 Typed last (Unless k ∷ symbols) found = Typed last symbols found
@@ -33,7 +33,7 @@ kept_append : (b : Bool) (s : Sort) (found rest : List Sort) → cond b (s ∷ f
 kept_append true s found rest = refl
 kept_append false s found rest = refl
 
-run_typed : (last : Sort) (front behind : List Symbol) (found found' rest : List Sort) → run front found ≡ Some found' → Typed last behind (found' ++ rest) → Typed last (front ++ behind) (found ++ rest)
+pub run_typed : (last : Sort) (front behind : List Symbol) (found found' rest : List Sort) → run front found ≡ Some found' → Typed last behind (found' ++ rest) → Typed last (front ++ behind) (found ++ rest)
 run_typed last [] behind found found' rest e t = let d : found' ≡ found = cc in subst (λ x. Typed last behind (x ++ rest)) d t
 run_typed last (Take k mark ∷ front) behind found found' rest e t =
     subst (λ x. Typed last (front ++ behind) x) (kept_append (keeps mark) (kept_sort k) found rest) (run_typed last front behind (cond (keeps mark) (kept_sort k ∷ found) found) found' rest e t)
@@ -61,7 +61,7 @@ final_stop : (last : Sort) (aim : Aim) (state : State) → Accepts aim state →
 final_stop last (Part test) state ok = tt
 final_stop last (Whole values) state ok = absurd ok
 
-kept_sorts : (b : Bool) (s : Sort) (v : Value) (vs : List Value) → sort_of v ≡ s → cond b (s ∷ sorts vs) (sorts vs) ≡ sorts (cond b (v ∷ vs) vs)
+pub kept_sorts : (b : Bool) (s : Sort) (v : Value) (vs : List Value) → sort_of v ≡ s → cond b (s ∷ sorts vs) (sorts vs) ≡ sorts (cond b (v ∷ vs) vs)
 kept_sorts true s v vs e = ap (λ x. x ∷ sorts vs) (sym e)
 kept_sorts false s v vs e = refl
 
@@ -104,3 +104,6 @@ one_mapping (v ∷ []) e = cc
 -- What a whole mapping leaves is one mapping.
 pub mapping_is : (values : List Value) (ps : List Piece) → AllKept ps → Goes alternatives (Whole values) map_start empty ps → values ≡ value.Mapping (mapping_in values) ∷ []
 mapping_is values ps w g = one_mapping values (goes_typed sort.Mapping w g ([], refl, ([], refl, refl)))
+
+pub first_mapping_is : (values : List Value) (ps : List Piece) → AllKept ps → Goes alternatives (Whole values) first_map_start empty ps → values ≡ value.Mapping (mapping_in values) ∷ []
+first_mapping_is values ps w g = one_mapping values (goes_typed sort.Mapping w g ([], refl, ([], refl, refl)))

@@ -236,10 +236,12 @@ first_kinds rule.AnyName = kind.NoneWord ∷ kind.Name ∷ kind.FunctionWord ∷
 first_kinds rule.NewName = kind.Name ∷ kind.FunctionWord ∷ kind.GlobalWord ∷ kind.MutexWord ∷
     kind.FieldWord ∷ kind.InitWord ∷ kind.PointWord ∷ kind.CheckWord ∷ kind.EntryWord ∷ kind.LoopWord ∷
     kind.CallWord ∷ kind.BlockWord ∷ []
-first_kinds rule.Entries = kind.FieldWord ∷ kind.InitWord ∷ kind.PointWord ∷ kind.CheckWord ∷
+first_kinds rule.Entries = kind.PointWord ∷ kind.FieldWord ∷ kind.InitWord ∷ kind.CheckWord ∷
     kind.FunctionWord ∷ kind.Struct ∷ kind.GlobalWord ∷ kind.MutexWord ∷ []
-first_kinds rule.Entry = kind.FieldWord ∷ kind.InitWord ∷ kind.PointWord ∷ kind.CheckWord ∷
+first_kinds rule.Entry = kind.PointWord ∷ kind.FieldWord ∷ kind.InitWord ∷ kind.CheckWord ∷
     kind.FunctionWord ∷ kind.Struct ∷ kind.GlobalWord ∷ kind.MutexWord ∷ []
+first_kinds rule.OtherEntry = kind.FieldWord ∷ kind.InitWord ∷ kind.CheckWord ∷ kind.FunctionWord ∷
+    kind.Struct ∷ kind.GlobalWord ∷ kind.MutexWord ∷ []
 first_kinds rule.Side = kind.FunctionWord ∷ kind.Struct ∷ kind.GlobalWord ∷ kind.MutexWord ∷ []
 first_kinds rule.Target = kind.Name ∷ kind.FunctionWord ∷ kind.GlobalWord ∷ kind.MutexWord ∷ kind.FieldWord ∷
     kind.InitWord ∷ kind.PointWord ∷ kind.CheckWord ∷ kind.EntryWord ∷ kind.LoopWord ∷ kind.CallWord ∷
@@ -254,6 +256,18 @@ first_kinds rule.FillName = kind.NoneWord ∷ kind.Dot ∷ kind.Name ∷ kind.Fu
     kind.MutexWord ∷ kind.FieldWord ∷ kind.InitWord ∷ kind.PointWord ∷ kind.CheckWord ∷ kind.EntryWord ∷
     kind.LoopWord ∷ kind.CallWord ∷ kind.BlockWord ∷ []
 first_kinds rule.FillNumber = kind.Dot ∷ []
+first_kinds rule.Parts = kind.EntryWord ∷ kind.LoopWord ∷ kind.CallWord ∷ kind.BlockWord ∷ []
+first_kinds rule.SecondPart = kind.Plus ∷ []
+first_kinds rule.ThirdPart = kind.Plus ∷ []
+first_kinds rule.FourthPart = kind.Plus ∷ []
+first_kinds rule.AddedPart = kind.NoneWord ∷ kind.Name ∷ kind.FunctionWord ∷ kind.GlobalWord ∷
+    kind.MutexWord ∷ kind.FieldWord ∷ kind.InitWord ∷ kind.PointWord ∷ kind.CheckWord ∷ kind.EntryWord ∷
+    kind.LoopWord ∷ kind.CallWord ∷ kind.BlockWord ∷ []
+first_kinds rule.FirstEntries = kind.FieldWord ∷ kind.InitWord ∷ kind.CheckWord ∷ kind.PointWord ∷
+    kind.FunctionWord ∷ kind.Struct ∷ kind.GlobalWord ∷ kind.MutexWord ∷ []
+first_kinds rule.FirstEntry = kind.FieldWord ∷ kind.InitWord ∷ kind.CheckWord ∷ kind.PointWord ∷
+    kind.FunctionWord ∷ kind.Struct ∷ kind.GlobalWord ∷ kind.MutexWord ∷ []
+first_kinds rule.OnlyPart = kind.EntryWord ∷ kind.LoopWord ∷ kind.CallWord ∷ kind.BlockWord ∷ []
 first_kinds rule.Mul = kind.LeftParen ∷ kind.Number ∷ kind.Char ∷ kind.Null ∷ kind.Eof ∷ kind.Malloc ∷
     kind.Getchar ∷ kind.Create ∷ kind.Join ∷ kind.Lock ∷ kind.Unlock ∷ kind.Name ∷ kind.Minus ∷ kind.Bang ∷
     kind.Tilde ∷ []

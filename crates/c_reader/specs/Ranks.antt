@@ -114,12 +114,16 @@ blocked_kinds rule.MapName = kind.LeftBracket ∷ kind.Dot ∷ []
 blocked_kinds rule.MapArrows = kind.Arrow ∷ []
 blocked_kinds rule.AnyName = []
 blocked_kinds rule.NewName = []
-blocked_kinds rule.Entries = kind.FieldWord ∷ kind.InitWord ∷ kind.PointWord ∷ kind.CheckWord ∷
+blocked_kinds rule.Entries = kind.PointWord ∷ kind.FieldWord ∷ kind.InitWord ∷ kind.CheckWord ∷
     kind.FunctionWord ∷ kind.Struct ∷ kind.GlobalWord ∷ kind.MutexWord ∷ []
-blocked_kinds rule.Entry = kind.LeftBrace ∷ kind.Arrow ∷ kind.LeftBracket ∷ kind.Dot ∷ kind.Star ∷
-    kind.Slash ∷ kind.Percent ∷ kind.Plus ∷ kind.Minus ∷ kind.ShiftLeft ∷ kind.ShiftRight ∷ kind.Less ∷
+blocked_kinds rule.Entry = kind.LeftBrace ∷ kind.Plus ∷ kind.Arrow ∷ kind.LeftBracket ∷ kind.Dot ∷
+    kind.Star ∷ kind.Slash ∷ kind.Percent ∷ kind.Minus ∷ kind.ShiftLeft ∷ kind.ShiftRight ∷ kind.Less ∷
     kind.LessEqual ∷ kind.Greater ∷ kind.GreaterEqual ∷ kind.EqualEqual ∷ kind.NotEqual ∷ kind.And ∷
     kind.Xor ∷ kind.Or ∷ kind.AndAnd ∷ kind.OrOr ∷ []
+blocked_kinds rule.OtherEntry = kind.Arrow ∷ kind.LeftBracket ∷ kind.Dot ∷ kind.Star ∷ kind.Slash ∷
+    kind.Percent ∷ kind.Plus ∷ kind.Minus ∷ kind.ShiftLeft ∷ kind.ShiftRight ∷ kind.Less ∷ kind.LessEqual ∷
+    kind.Greater ∷ kind.GreaterEqual ∷ kind.EqualEqual ∷ kind.NotEqual ∷ kind.And ∷ kind.Xor ∷ kind.Or ∷
+    kind.AndAnd ∷ kind.OrOr ∷ []
 blocked_kinds rule.Side = []
 blocked_kinds rule.Target = []
 blocked_kinds rule.Pt = []
@@ -130,6 +134,18 @@ blocked_kinds rule.FillList = kind.NoneWord ∷ kind.Dot ∷ kind.Name ∷ kind.
     kind.LoopWord ∷ kind.CallWord ∷ kind.BlockWord ∷ []
 blocked_kinds rule.FillName = kind.Dot ∷ []
 blocked_kinds rule.FillNumber = kind.Dot ∷ []
+blocked_kinds rule.Parts = kind.LeftBrace ∷ kind.Plus ∷ []
+blocked_kinds rule.SecondPart = kind.Plus ∷ kind.LeftBrace ∷ []
+blocked_kinds rule.ThirdPart = kind.Plus ∷ kind.LeftBrace ∷ []
+blocked_kinds rule.FourthPart = kind.Plus ∷ kind.LeftBrace ∷ []
+blocked_kinds rule.AddedPart = kind.LeftBrace ∷ []
+blocked_kinds rule.FirstEntries = kind.FieldWord ∷ kind.InitWord ∷ kind.CheckWord ∷ kind.PointWord ∷
+    kind.FunctionWord ∷ kind.Struct ∷ kind.GlobalWord ∷ kind.MutexWord ∷ []
+blocked_kinds rule.FirstEntry = kind.Arrow ∷ kind.LeftBracket ∷ kind.Dot ∷ kind.Star ∷ kind.Slash ∷
+    kind.Percent ∷ kind.Plus ∷ kind.Minus ∷ kind.ShiftLeft ∷ kind.ShiftRight ∷ kind.Less ∷ kind.LessEqual ∷
+    kind.Greater ∷ kind.GreaterEqual ∷ kind.EqualEqual ∷ kind.NotEqual ∷ kind.And ∷ kind.Xor ∷ kind.Or ∷
+    kind.AndAnd ∷ kind.OrOr ∷ kind.LeftBrace ∷ []
+blocked_kinds rule.OnlyPart = kind.LeftBrace ∷ []
 blocked_kinds rule.Mul = kind.Arrow ∷ kind.LeftBracket ∷ kind.LeftParen ∷ kind.Star ∷ kind.Slash ∷
     kind.Percent ∷ []
 blocked_kinds rule.MulTail = kind.Star ∷ kind.Slash ∷ kind.Percent ∷ kind.Arrow ∷ kind.LeftBracket ∷
@@ -357,8 +373,9 @@ rank rule.MapName = 2
 rank rule.MapArrows = 1
 rank rule.AnyName = 2
 rank rule.NewName = 1
-rank rule.Entries = 3
-rank rule.Entry = 2
+rank rule.Entries = 4
+rank rule.Entry = 3
+rank rule.OtherEntry = 2
 rank rule.Side = 1
 rank rule.Target = 2
 rank rule.Pt = 2
@@ -367,6 +384,14 @@ rank rule.Fills = 2
 rank rule.FillList = 4
 rank rule.FillName = 3
 rank rule.FillNumber = 1
+rank rule.Parts = 3
+rank rule.SecondPart = 2
+rank rule.ThirdPart = 2
+rank rule.FourthPart = 2
+rank rule.AddedPart = 3
+rank rule.FirstEntries = 4
+rank rule.FirstEntry = 3
+rank rule.OnlyPart = 3
 rank rule.Mul = 3
 rank rule.MulTail = 2
 rank rule.Add = 4

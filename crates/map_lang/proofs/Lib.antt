@@ -1,3 +1,6 @@
 mod Readings
 mod Answered
+mod Typing
 mod MapForms
+mod Singles
+mod Formats

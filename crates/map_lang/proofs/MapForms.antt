@@ -1,14 +1,15 @@
 -- Each mapping that is read has the form that its entries ask for: no action makes a point that is a plain place or a match
--- of another kind, whatever it finds.
-use Rattle.std.specs.Prelude.{◌≡◌, map, nat_lt, not, IsTrue, ⊤, ℕ, List, [], ◌∷◌, Bool, true, false, cond, All, Result, Ok, Err, IfOk, MatchResult}
-use Rattle.std.proofs.Common.{refl, sym, subst}
-use Rattle.std.proofs.lemmas.List.Elements.{All-nil, All-push}
+-- of another kind, whatever it finds, and those that make the parts of a point make one to four.
+use Rattle.std.specs.Prelude.{◌≡◌, ◌≤◌, map, nat_lt, not, IsTrue, ⊤, ℕ, List, [], ◌∷◌, ◌++◌, Bool, true, false, cond, All, Result, Ok, Err, IfOk, MatchResult}
+use Rattle.std.proofs.Common.{refl, sym, ◌∙◌, ap, subst, arith}
+use Rattle.std.proofs.lemmas.List.Elements.{All-nil, All-cons, All-push}
 use Rattle.c_tree.specs.declared.mapping.Entry.{Entry}
 use Rattle.c_tree.specs.declared.mapping.Mapping.{Mapping}
+use Rattle.c_tree.specs.declared.mapping.Part.{Part}
 use Rattle.c_tree.specs.declared.place.PlaceKind.TheVariants as place
 use Rattle.c_tree.specs.declared.token.Token.{Token}
 use Rattle.c_tree.specs.Points.{is_kind}
-use Rattle.c_tree.specs.MapForm.{IsReadPoint, IsReadEntry, HasMapForm}
+use Rattle.c_tree.specs.MapForm.{IsReadPoint, IsAddedPart, AreReadParts, IsReadEntry, HasMapForm}
 use Rattle.c_tokens.specs.Text.{text_of}
 use Rattle.c_grammar.specs.declared.action.Action.{Action}
 use Rattle.c_grammar.specs.declared.action.Action.TheVariants as action
@@ -17,20 +18,30 @@ use Rattle.c_grammar.specs.declared.kind.Kind.TheVariants as kind
 use Rattle.c_grammar.specs.declared.symbol.Symbol.{Symbol}
 use Rattle.c_grammar.specs.declared.value.Value.{Value}
 use Rattle.c_grammar.specs.declared.value.Value.TheVariants as value
-use Rattle.c_grammar.specs.Values.{older, second, third, fourth, fifth, sixth, seventh, pt_in, mapping_in}
+use Rattle.c_grammar.specs.Values.{older, second, third, fourth, fifth, sixth, pt_in, part_in, parts_in, mapping_in}
 use Rattle.c_grammar.specs.Marks.{keeps}
-use Rattle.c_grammar.specs.Effects.{State, empty, value_effect, with_entry, meaning, side_of, place_of}
+use Rattle.c_grammar.specs.Effects.{State, value_effect, with_entry, meaning, side_of, place_of}
 use Rattle.c_grammar.specs.Pieces.{Piece, map_piece}
-use Rattle.c_grammar.specs.Rules.{alternatives, map_start}
-use Rattle.c_grammar.specs.Reading.{Aim, Part, Whole, Accepts, Goes, stop, end, take_token, pass, act, expand}
+use Rattle.c_grammar.specs.Rules.{map_start}
+use Rattle.c_grammar.specs.Reading.{Whole, Goes, stop, end, take_token, pass, act, expand}
 use Rattle.c_grammar.specs.Mapping.{map_pieces, IsMappingOf}
+use Rattle.c_reader.specs.Choices.{choices}
+use Rattle.c_reader.proofs.Bounded.{bounded, goes_so}
+use Rattle.c_reader.proofs.Sorts as sort
+use Rattle.c_reader.proofs.Sorts.{Sort, sort_of, kept_sort, wants}
+use Rattle.c_reader.proofs.SortRuns.{sorts}
+use Rattle.c_reader.proofs.Trees.{AllKept}
 use Rattle.map_lang.specs.declared.refused.MapRefused.{MapRefused}
 use Rattle.map_lang.specs.Refusal.{IsRefusal}
 use Rattle.map_lang.specs.Formed.{EachMappingHasTheForm}
+use Rattle.map_lang.proofs.Readings.{map_fits, all_kept}
+use Rattle.map_lang.proofs.Typing.{past, AreTyped, typed_take, typed_act, typed_expand, typed_map}
 
--- a point or a mapping is of the form, and of all other values nothing is asked
+-- a point, a part, the parts of a point or a mapping is of the form, and of all other values nothing is asked
 abbrev pub Fits : Value → Type 0
 Fits (value.Pt pt) = IsReadPoint pt
+Fits (value.Part p) = IsAddedPart p
+Fits (value.Parts parts) = AreReadParts parts
 Fits (value.Mapping m) = HasMapForm m
 Fits v = ⊤
 
@@ -38,35 +49,50 @@ abbrev pub AllFit : List Value → Type 0
 AllFit [] = ⊤
 AllFit (v ∷ vs) = Fits v × AllFit vs
 
+older_fits : (vs : List Value) → AllFit vs → AllFit (older vs)
+older_fits [] h = tt
+older_fits (v ∷ vs) h = h.1
+
+past_fits : (ss : List Sort) (vs : List Value) → AllFit vs → AllFit (past ss vs)
+past_fits [] vs h = h
+past_fits (s ∷ ss) vs h = past_fits ss (older vs) (older_fits vs h)
+
 second_fits : (vs : List Value) → AllFit vs → AllFit (second vs)
-second_fits [] h = tt
-second_fits (v ∷ vs) h = h.1
+second_fits vs h = older_fits vs h
 
 third_fits : (vs : List Value) → AllFit vs → AllFit (third vs)
-third_fits vs h = second_fits (second vs) (second_fits vs h)
+third_fits vs h = older_fits (second vs) (second_fits vs h)
 
 fourth_fits : (vs : List Value) → AllFit vs → AllFit (fourth vs)
-fourth_fits vs h = second_fits (third vs) (third_fits vs h)
+fourth_fits vs h = older_fits (third vs) (third_fits vs h)
 
 fifth_fits : (vs : List Value) → AllFit vs → AllFit (fifth vs)
-fifth_fits vs h = second_fits (fourth vs) (fourth_fits vs h)
+fifth_fits vs h = older_fits (fourth vs) (fourth_fits vs h)
 
 sixth_fits : (vs : List Value) → AllFit vs → AllFit (sixth vs)
-sixth_fits vs h = second_fits (fifth vs) (fifth_fits vs h)
+sixth_fits vs h = older_fits (fifth vs) (fifth_fits vs h)
 
-seventh_fits : (vs : List Value) → AllFit vs → AllFit (seventh vs)
-seventh_fits vs h = second_fits (sixth vs) (sixth_fits vs h)
-
--- The newest point and the newest mapping are of the form, and so are those that stand for a value of another sort.
+-- The newest point, part and mapping are of the form, and so are those that stand for a value of another sort.
 point_fits : (vs : List Value) → AllFit vs → IsReadPoint (pt_in vs)
 point_fits [] h = refl
 point_fits (value.Pt pt ∷ vs) h = h.0
 point_fits (v ∷ vs) h = refl
 
+part_fits : (vs : List Value) → AllFit vs → IsAddedPart (part_in vs)
+part_fits [] h = (refl, refl)
+part_fits (value.Part p ∷ vs) h = h.0
+part_fits (v ∷ vs) h = (refl, refl)
+
 mapping_fits : (vs : List Value) → AllFit vs → HasMapForm (mapping_in vs)
 mapping_fits [] h = All-nil (λ x. IsReadEntry x.it)
 mapping_fits (value.Mapping m ∷ vs) h = h.0
 mapping_fits (v ∷ vs) h = All-nil (λ x. IsReadEntry x.it)
+
+-- The newest parts are of the form where they are the newest value.
+parts_fit : (vs : List Value) (rest : List Sort) → sorts vs ≡ sort.Parts ∷ rest → AllFit vs → AreReadParts (parts_in vs)
+parts_fit [] rest e h = cc
+parts_fit (value.Parts parts ∷ vs) rest e h = h.0
+parts_fit (v ∷ vs) rest e h = cc
 
 -- A word names one of the four kinds of matches, and no plain place.
 side_is_read : (k : Kind) → IsTrue (nat_lt (side_of k) 4)
@@ -80,92 +106,39 @@ place_is_read k = refl
 more_entries : (vs : List Value) (at : ℕ) (x : Entry) → AllFit vs → IsReadEntry x → HasMapForm (with_entry (mapping_in vs) at x)
 more_entries vs at x h i = All-push (λ y. IsReadEntry y.it) (mapping_in vs).entries (record { at = at; it = x }) (mapping_fits vs h) i
 
+no_parts : All IsAddedPart []
+no_parts = All-nil IsAddedPart
+
+one_more : (p : Part) (parts : List Part) → IsAddedPart p → All IsAddedPart parts → All IsAddedPart (p ∷ parts)
+one_more p parts h all = All-cons IsAddedPart p parts h all
+
 -- Each action leaves values of the form.
-pub fit_after : (a : Action) (vs : List Value) → AllFit vs → AllFit (value_effect a vs)
-fit_after action.Num vs h = (tt, second_fits vs h)
-fit_after action.NullExpr vs h = (tt, second_fits vs h)
-fit_after action.EofExpr vs h = (tt, second_fits vs h)
-fit_after action.NameExpr vs h = (tt, second_fits vs h)
-fit_after action.HiddenSlot vs h = (tt, third_fits vs h)
-fit_after action.TempSlot vs h = (tt, third_fits vs h)
-fit_after action.Index vs h = (tt, third_fits vs h)
-fit_after action.Field vs h = (tt, third_fits vs h)
-fit_after action.Call vs h = (tt, third_fits vs h)
-fit_after action.Malloc vs h = (tt, third_fits vs h)
-fit_after action.Getchar vs h = (tt, second_fits vs h)
-fit_after action.Create vs h = (tt, fifth_fits vs h)
-fit_after action.Join vs h = (tt, third_fits vs h)
-fit_after action.Lock vs h = (tt, third_fits vs h)
-fit_after action.Unlock vs h = (tt, third_fits vs h)
-fit_after action.Group vs h = (tt, third_fits vs h)
-fit_after action.Un vs h = (tt, third_fits vs h)
-fit_after action.Cast vs h = (tt, fourth_fits vs h)
-fit_after action.Bin vs h = (tt, fourth_fits vs h)
-fit_after action.NoArgs vs h = (tt, h)
-fit_after action.OneArg vs h = (tt, second_fits vs h)
-fit_after action.MoreArg vs h = (tt, third_fits vs h)
-fit_after action.NoExpr vs h = (tt, h)
-fit_after action.SomeExpr vs h = (tt, second_fits vs h)
-fit_after action.NoStmt vs h = (tt, h)
-fit_after action.SomeStmt vs h = (tt, second_fits vs h)
-fit_after action.EmptyStmt vs h = (tt, second_fits vs h)
-fit_after action.BlockStmt vs h = (tt, third_fits vs h)
-fit_after action.If vs h = (tt, fourth_fits vs h)
-fit_after action.IfElse vs h = (tt, fifth_fits vs h)
-fit_after action.While vs h = (tt, fourth_fits vs h)
-fit_after action.For vs h = (tt, sixth_fits vs h)
-fit_after action.Break vs h = (tt, second_fits vs h)
-fit_after action.Continue vs h = (tt, second_fits vs h)
-fit_after action.Return vs h = (tt, third_fits vs h)
-fit_after action.Assign vs h = (tt, fourth_fits vs h)
-fit_after action.Post vs h = (tt, third_fits vs h)
-fit_after action.Pre vs h = (tt, third_fits vs h)
-fit_after action.Run vs h = (tt, second_fits vs h)
-fit_after action.Free vs h = (tt, third_fits vs h)
-fit_after action.Print vs h = (tt, fourth_fits vs h)
-fit_after action.NoStmts vs h = (tt, h)
-fit_after action.MoreStmt vs h = (tt, third_fits vs h)
-fit_after action.IntType vs h = (tt, h)
-fit_after action.ThreadType vs h = (tt, h)
-fit_after action.VoidType vs h = (tt, h)
-fit_after action.AnyType vs h = (tt, h)
-fit_after action.PtrType vs h = (tt, second_fits vs h)
-fit_after action.DeclItem vs h = (tt, (tt, fifth_fits vs h))
-fit_after action.EndDecl vs h = second_fits vs h
-fit_after action.NoFields vs h = (tt, h)
-fit_after action.OneField vs h = (tt, third_fits vs h)
-fit_after action.MoreField vs h = (tt, fourth_fits vs h)
-fit_after action.NumberCount vs h = (tt, second_fits vs h)
-fit_after action.NameCount vs h = (tt, second_fits vs h)
-fit_after action.MinusConst vs h = (tt, third_fits vs h)
-fit_after action.NumberConst vs h = (tt, second_fits vs h)
-fit_after action.NameConst vs h = (tt, second_fits vs h)
-fit_after action.NullConst vs h = (tt, second_fits vs h)
-fit_after action.EofConst vs h = (tt, second_fits vs h)
-fit_after action.StartProgram vs h = (tt, h)
-fit_after action.DefineItem vs h = (tt, third_fits vs h)
-fit_after action.StructItem vs h = (tt, fourth_fits vs h)
-fit_after action.ArrayItem vs h = (tt, fifth_fits vs h)
-fit_after action.InitItem vs h = (tt, fifth_fits vs h)
-fit_after action.PlainItem vs h = (tt, fourth_fits vs h)
-fit_after action.MutexItem vs h = (tt, third_fits vs h)
-fit_after action.FunctionItem vs h = (tt, seventh_fits vs h)
-fit_after action.PrototypeItem vs h = (tt, fifth_fits vs h)
-fit_after action.StartMapping vs h = (All-nil (λ x. IsReadEntry x.it), h)
-fit_after action.MatchEntry vs h = (more_entries (fourth vs) _ _ (fourth_fits vs h) (side_is_read (meaning (third vs))), fifth_fits vs h)
-fit_after action.UnmatchedEntry vs h = (more_entries (third vs) _ _ (third_fits vs h) (side_is_read (meaning (second vs))), fourth_fits vs h)
-fit_after action.FieldEntry vs h = (more_entries (fifth vs) _ _ (fifth_fits vs h) tt, sixth_fits vs h)
-fit_after action.InitEntry vs h = (more_entries (fourth vs) _ _ (fourth_fits vs h) tt, fifth_fits vs h)
-fit_after action.PointEntry vs h = (more_entries (sixth vs) _ _ (sixth_fits vs h) (point_fits (third vs) (third_fits vs h), point_fits (second vs) (second_fits vs h)), seventh_fits vs h)
-fit_after action.CheckEntry vs h = (more_entries (third vs) _ _ (third_fits vs h) tt, fourth_fits vs h)
-fit_after action.EntryPt vs h = (refl, h)
-fit_after action.NumberPt vs h = (place_is_read (meaning (second vs)), third_fits vs h)
-fit_after action.NoFills vs h = (tt, h)
-fit_after action.MoreFill vs h = (tt, fourth_fits vs h)
-fit_after action.HiddenName vs h = (tt, third_fits vs h)
-fit_after action.TempName vs h = (tt, second_fits vs h)
-fit_after action.Leave vs h = h
-fit_after action.Outer vs h = h
+fit_after : (a : Action) (vs : List Value) (rest : List Sort) → sorts vs ≡ wants a ++ rest → AllFit vs → AllFit (value_effect a vs)
+fit_after action.DeclItem vs rest e h = (tt, (tt, fifth_fits vs h))
+fit_after action.EndDecl vs rest e h = second_fits vs h
+fit_after action.StartMapping vs rest e h = (All-nil (λ x. IsReadEntry x.it), h)
+fit_after action.MatchEntry vs rest e h = (more_entries (fourth vs) _ _ (fourth_fits vs h) (side_is_read (meaning (third vs))), fifth_fits vs h)
+fit_after action.UnmatchedEntry vs rest e h = (more_entries (third vs) _ _ (third_fits vs h) (side_is_read (meaning (second vs))), fourth_fits vs h)
+fit_after action.FieldEntry vs rest e h = (more_entries (fifth vs) _ _ (fifth_fits vs h) tt, sixth_fits vs h)
+fit_after action.InitEntry vs rest e h = (more_entries (fourth vs) _ _ (fourth_fits vs h) tt, fifth_fits vs h)
+fit_after action.PointEntry vs rest e h =
+    (more_entries (fifth vs) _ _ (fifth_fits vs h) (point_fits (second vs) (second_fits vs h), parts_fit vs _ e h), sixth_fits vs h)
+fit_after action.CheckEntry vs rest e h = (more_entries (third vs) _ _ (third_fits vs h) tt, fourth_fits vs h)
+fit_after action.EntryPt vs rest e h = (refl, h)
+fit_after action.NumberPt vs rest e h = (place_is_read (meaning (second vs)), third_fits vs h)
+fit_after action.OnePart vs rest e h = ((refl, (point_fits (second vs) (second_fits vs h), (omega arith, no_parts))), third_fits vs h)
+fit_after action.TwoParts vs rest e h =
+    ((refl, (point_fits (third vs) (third_fits vs h), (omega arith, one_more _ _ (part_fits vs h) no_parts))), fourth_fits vs h)
+fit_after action.ThreeParts vs rest e h =
+    ((refl, (point_fits (fourth vs) (fourth_fits vs h), (omega arith, one_more _ _ (part_fits (second vs) (second_fits vs h)) (one_more _ _ (part_fits vs h) no_parts)))), fifth_fits vs h)
+fit_after action.FourParts vs rest e h =
+    let last : All IsAddedPart (part_in vs ∷ []) = one_more (part_in vs) [] (part_fits vs h) no_parts in
+    let behind : All IsAddedPart (part_in (second vs) ∷ part_in vs ∷ []) = one_more (part_in (second vs)) (part_in vs ∷ []) (part_fits (second vs) (second_fits vs h)) last in
+    ((refl, (point_fits (fifth vs) (fifth_fits vs h), (omega arith, one_more (part_in (third vs)) _ (part_fits (third vs) (third_fits vs h)) behind))), sixth_fits vs h)
+fit_after action.AddPart vs rest e h = ((refl, point_fits (second vs) (second_fits vs h)), fourth_fits vs h)
+fit_after action.Leave vs rest e h = h
+fit_after action.Outer vs rest e h = h
+fit_after a vs rest e h = (tt, past_fits (wants a) vs h)
 
 -- So does each token that is taken, and with them each reading.
 abbrev pub AreWords : List Piece → Type 0
@@ -180,24 +153,21 @@ kept_fits : (b : Bool) (v : Value) (vs : List Value) → Fits v → AllFit vs �
 kept_fits true v vs i h = (i, h)
 kept_fits false v vs i h = h
 
-abbrev Ends : Aim → Type 0
-Ends (Part test) = ⊤
-Ends (Whole values) = AllFit values
-
-ends_stop : (aim : Aim) (state : State) → Accepts aim state → Ends aim
-ends_stop (Part test) state ok = tt
-ends_stop (Whole values) state ok = absurd ok
-
-goes_fit : {aim : Aim} {symbols : List Symbol} {state : State} {ps : List Piece} → AreWords ps → Goes alternatives aim symbols state ps → AllFit state.values → Ends aim
-goes_fit w (stop {aim = aim} {state = state} ok) h = ends_stop aim state ok
-goes_fit w (end e) h = subst AllFit (sym e) h
-goes_fit w (take_token {mark = mark} {state = state} {p = p} e g) h = goes_fit w.1 g (kept_fits (keeps mark) p.value state.values w.0 h)
-goes_fit w (pass n g) h = goes_fit w g h
-goes_fit w (act {a = a} {state = state} g) h = goes_fit w g (fit_after a state.values h)
-goes_fit w (expand m g) h = goes_fit w g h
+goes_fit : {values : List Value} {symbols : List Symbol} {state : State} {ps : List Piece} → AreWords ps → AllKept ps → Goes choices (Whole values) symbols state ps
+    → AreTyped symbols state.values → AllFit state.values → AllFit values
+goes_fit w k (stop ok) t h = absurd ok
+goes_fit w k (end e) t h = subst AllFit (sym e) h
+goes_fit w k (take_token {kind = kind} {mark = mark} {symbols = symbols} {state = state} {p = p} e g) t h =
+    goes_fit w.1 k.1 g (typed_take kind mark symbols p.value state.values (k.0 ∙ ap kept_sort e) t) (kept_fits (keeps mark) p.value state.values w.0 h)
+goes_fit w k (pass n g) t h = goes_fit w k g t h
+goes_fit w k (act {a = a} {symbols = symbols} {state = state} g) t h = goes_fit w k g (typed_act a symbols state.values t) (fit_after a state.values t.0 t.1 h)
+goes_fit w k (expand {r = r} {alternative = front} {symbols = symbols} {state = state} m g) t h = goes_fit w k g (typed_expand r front symbols state.values m t) h
 
 pub formed : EachMappingHasTheForm
-formed text mapping is = (goes_fit (are_words (text_of text).tokens) is.reading.reads tt).0
+formed text mapping is =
+    let tokens = (text_of text).tokens in
+    let g = bounded map_start (map_pieces (text_of text)) (value.Mapping mapping ∷ []) map_fits is.reading in
+    (goes_fit (are_words tokens) (all_kept tokens) (goes_so g) typed_map tt).0
 
 -- So does what the reader answers that gives this mapping.
 pub answer_formed : (text : List ℕ) (r : Result Mapping MapRefused) → MatchResult r (IsMappingOf text) (IsRefusal text) → IfOk r HasMapForm

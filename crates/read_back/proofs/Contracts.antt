@@ -2,7 +2,9 @@
 use Rattle.std.specs.Prelude.{◌≡◌, ◌≢◌, ℕ, ◌+◌, ◌-◌, ◌≤◌, ⊤, List, [], ◌∷◌, All}
 use Rattle.c_tree.specs.declared.mapping.Fill.{Fill}
 use Rattle.c_tree.specs.declared.mapping.Mapping.{Mapping}
+use Rattle.c_tree.specs.declared.mapping.Part.{Part}
 use Rattle.c_tree.specs.declared.mapping.Pt.{Pt}
+use Rattle.c_tree.specs.MapForm.{IsAddedPart, AreReadParts}
 use Rattle.c_tree.specs.declared.token.Token.{Token}
 use Rattle.c_tree.specs.Operators.{binding}
 use Rattle.c_grammar.specs.declared.kind.Kind.TheVariants as kind
@@ -20,7 +22,7 @@ use Rattle.c_grammar.specs.Reading.{depth_limit}
 use Rattle.c_grammar.specs.Tokens.{kind_of, map_kind_of, map_word_kind, text_of}
 use Rattle.c_grammar.specs.Values.{mapping_in}
 use Rattle.c_reader.specs.Depth.{least}
-use Rattle.read_back.specs.Kept.{Fitting, IsKeptExpr, IsKeptPoint, IsKept}
+use Rattle.read_back.specs.Kept.{Fitting, IsKeptExpr, IsKeptPoint, IsKeptPart, IsKept}
 use Rattle.read_back.proofs.Literals.{HasLiteral}
 
 -- what is said of a state, and of how few constructs can be open before the next token
@@ -115,6 +117,42 @@ FillNumber state next =
     (old : Token) × (behind : List Value) × (state.values ≡ value.Word old ∷ behind)
     × ((after : State) (low' : ℕ) (t : Token) → after.values ≡ value.Word t ∷ behind → after.depth ≡ state.depth → next after low')
 
+-- added parts on the values, the newest in front
+abbrev pub parts_on : List Part → List Value → List Value
+parts_on [] vs = vs
+parts_on (p ∷ parts) vs = value.Part p ∷ parts_on parts vs
+
+-- The place and the fills of the first part were read, and these added parts behind them.
+pub record Begun (added : List Part) (behind : List Value) (state : State) : Type 0 where
+  pub point : Pt
+  pub fills : List Fill
+  pub values : state.values ≡ parts_on added (value.Fills fills ∷ value.Pt point ∷ behind)
+  pub kept_point : IsKeptPoint point
+  pub kept : AreKeptFills fills
+  pub added_form : All IsAddedPart added
+  pub added_kept : All IsKeptPart added
+  pub flat : state.depth ≡ 0
+
+-- All parts of a point were read.
+pub record Parted (behind : List Value) (state : State) : Type 0 where
+  pub parts : List Part
+  pub values : state.values ≡ value.Parts parts ∷ behind
+  pub form : AreReadParts parts
+  pub kept : All IsKeptPart parts
+  pub flat : state.depth ≡ 0
+
+abbrev pub Parts : State → Claim → Type 0
+Parts state next = (state.depth ≡ 0) × ((after : State) (low' : ℕ) → Parted state.values after → next after low')
+
+-- one more part, or the end of them
+abbrev pub MoreParts : List Part → State → Claim → Type 0
+MoreParts added state next = (behind : List Value) × Begun added behind state × ((after : State) (low' : ℕ) → Parted behind after → next after low')
+
+abbrev pub Added : State → Claim → Type 0
+Added state next =
+    (state.depth ≡ 0)
+    × ((after : State) (low' : ℕ) (p : Part) → after.values ≡ value.Part p ∷ state.values → IsAddedPart p → IsKeptPart p → after.depth ≡ 0 → next after low')
+
 -- what a rule asks of the state before it, and then of the claim behind it
 abbrev pub Reads : Rule → List Symbol → State → ℕ → Claim → Type 0
 Reads rule.MapExpr symbols state low next = Level 0 state low next
@@ -158,6 +196,12 @@ Reads rule.Side symbols state low next = Word mark.Keep AnyWord symbols state lo
 Reads rule.PtWord symbols state low next = Word mark.Keep AnyWord symbols state low next
 Reads rule.Entries symbols state low next = Document state next
 Reads rule.Entry symbols state low next = Document state next
+Reads rule.OtherEntry symbols state low next = Document state next
+Reads rule.Parts symbols state low next = Parts state next
+Reads rule.SecondPart symbols state low next = MoreParts [] state next
+Reads rule.ThirdPart symbols state low next = (p : Part) × MoreParts (p ∷ []) state next
+Reads rule.FourthPart symbols state low next = (p q : Part) × MoreParts (q ∷ p ∷ []) state next
+Reads rule.AddedPart symbols state low next = Added state next
 Reads rule.Target symbols state low next = Matched state next
 Reads rule.Pt symbols state low next = Pointed state next
 Reads rule.Fills symbols state low next = Fills state next

@@ -1,16 +1,16 @@
 -- An entry of a patch, from its text to an entry of a mapping that lifts to it again.
 use Rattle.std.proofs.Common.{◌≡◌, ℕ, suc, zero, ◌+◌, inl, Bool, true, false, List, [], ◌∷◌, ◌++◌, length, Option, Some, None, Result, Ok, refl, sym, ◌∙◌, ap, subst, arith, append_assoc}
-use Rattle.std.specs.Prelude.{map, codes, unwrap_or, if◌then◌else◌, nat_lt, slice_index_or, slice_get}
-use Rattle.std.specs.List.{AllByRecursion}
+use Rattle.std.specs.Prelude.{map, codes, is_some, if◌then◌else◌, nat_lt, slice_get}
+use Rattle.std.specs.List.{list_any, AllZip, AllByRecursion}
 use Rattle.std.specs.Option.{ok_or, option_map}
 use Rattle.std.proofs.lemmas.Option.{none-some, same_Some}
 use Rattle.std.proofs.lemmas.Bool.Decides.{nat_tests}
+use Rattle.std.proofs.lemmas.List.{length-map}
 use Rattle.std.proofs.lemmas.List.Elements.{recursion_from_All}
 use Rattle.c_tree.specs.declared.cause.EntryCause.{EntryCause}
 use Rattle.c_tree.specs.declared.cause.EntryCause.TheVariants as c
 use Rattle.c_tree.specs.declared.lifted.LExpr.{LExpr}
 use Rattle.c_tree.specs.declared.lifted.Lifted.{Lifted}
-use Rattle.c_tree.specs.declared.lifted.LFunction.{LFunction}
 use Rattle.c_tree.specs.declared.lifted.Slot.{Slot}
 use Rattle.c_tree.specs.declared.token.Token.{Token}
 use Rattle.c_tree.specs.declared.token.TokenKind.TheVariants as token
@@ -18,45 +18,53 @@ use Rattle.c_tree.specs.declared.program.Expr.{Expr}
 use Rattle.c_tree.specs.declared.mapping.Pt.{Pt}
 use Rattle.c_tree.specs.declared.mapping.Fill.{Fill}
 use Rattle.c_tree.specs.declared.mapping.LFill.{LFill}
+use Rattle.c_tree.specs.declared.mapping.LPart.{LPart}
+use Rattle.c_tree.specs.declared.mapping.Part.{Part as MapPart}
 use Rattle.c_tree.specs.declared.mapping.Mapping.{Mapping}
 use Rattle.c_tree.specs.declared.mapping.Entry.{Entry}
 use Rattle.c_tree.specs.declared.mapping.Entry.TheVariants as n
 use Rattle.c_tree.specs.declared.mapping.LEntry.{LEntry}
 use Rattle.c_tree.specs.declared.mapping.LEntry.TheVariants as l
 use Rattle.c_tree.specs.Step.{function_of}
+use Rattle.c_tree.specs.MapForm.{IsAddedPart, AreReadParts}
 use Rattle.c_tree.specs.Refusal.{onward, refuse_if}
 use Rattle.c_tree.specs.Names.{find_name, names_in, name_at, slot_names, field_name, struct_of}
-use Rattle.c_tree.specs.Points.{place_of, point_of}
-use Rattle.c_tree.specs.Link.{Link, match_at, origin}
+use Rattle.c_tree.specs.Points.{point_of}
+use Rattle.c_tree.specs.Link.{Link, origin}
 use Rattle.c_tree.specs.MapExpr.{Reads, only_globals, numbered}
-use Rattle.c_tree.specs.Suits.{site, kinds_differ, callees_differ, reads_slots, reads_fields, suits_slot, suits_global, suits_check, has_twice}
-use Rattle.c_tree.specs.Entries.{both, all_there}
-use Rattle.c_tree.specs.Chain.{new_number, suited, lifted_fill_at, lifted_fill, lifted_entry}
+use Rattle.c_tree.specs.Suits.{reads_slots, reads_fields, suits_slot, suits_global, suits_check}
+use Rattle.c_tree.specs.Entries.{all_there, function_in}
+use Rattle.c_tree.specs.Chain.{new_number, suited, lifted_fill_at, lifted_fill, is_twice_filled, lifted_entry}
 use Rattle.c_tree.specs.Shown.{shown}
-use Rattle.c_tree.specs.Canonical.{placed_by, sorted_by, fills_in_order, with_fills_in_order, point_text, match_word, side_text, fills_text, entry_text}
+use Rattle.c_tree.specs.Canonical.{placed_by, sorted_by, part_in_order, with_fills_in_order, point_text, match_word, side_text, parts_text, entry_text}
+use Rattle.c_tree.specs.Sound.{part_site}
 use Rattle.c_grammar.specs.declared.kind.Kind.TheVariants as kind
 use Rattle.c_grammar.specs.declared.rule.Rule.TheVariants as rule
 use Rattle.c_grammar.specs.declared.action.Action.TheVariants as action
+use Rattle.c_grammar.specs.declared.symbol.Symbol.{Symbol}
 use Rattle.c_grammar.specs.declared.symbol.Symbol.TheVariants.{Act, Expand}
 use Rattle.c_grammar.specs.declared.value.Value.{Value}
 use Rattle.c_grammar.specs.declared.value.Value.TheVariants as value
 use Rattle.c_grammar.specs.Tokens.{map_word_kind, word_kind, map_kind_of}
 use Rattle.c_grammar.specs.Effects.{value_effect, with_entry, side_of}
 use Rattle.c_grammar.specs.Words.{words, map_words}
-use Rattle.c_grammar.specs.Reading.{first, later}
+use Rattle.c_grammar.specs.Reading.{Among, first, later}
+use Rattle.c_reader.specs.Choices.{choices}
 use Rattle.c_reader.specs.Spelling.{IsSpelt, IsSlotSpelt, CanBeSpelt}
-use Rattle.read_back.specs.Kept.{IsKeptExpr, IsKeptPoint, IsKeptSide, IsKeptEntry}
+use Rattle.read_back.specs.Kept.{IsKeptExpr, IsKeptPoint, IsKeptPart, IsKeptSide, IsKeptEntry}
 use Rattle.patch_laws.proofs.Numbers.{number_at}
-use Rattle.patch_laws.proofs.LiftedForms.{there_known, same_ok, both_known, MatchForm, FieldForm, InitForm, CheckForm, PointForm, entry_form}
-use Rattle.patch_laws.proofs.LiftedSound.{suited_known, twice_kept}
+use Rattle.patch_laws.proofs.LiftedForms.{there_known, same_ok, both_known, MatchForm, FieldForm, InitForm, CheckForm, PartForm, PointForm, entry_form}
+use Rattle.patch_laws.proofs.LiftedSound.{suited_known}
 use Rattle.read_back.proofs.Printed.{token_at}
 use Rattle.read_back.proofs.Scan.{Stops, IsWord}
 use Rattle.read_back.proofs.Places.{point_found}
-use Rattle.read_back.proofs.Spelt.{named_of, spelling_of, CanSpell, can_spell, function_slots, struct_fields_spelt, names_spelt, name_of_number, slot_of_number}
+use Rattle.read_back.proofs.Spelt.{named_of, spelling_of, CanSpell, can_spell, function_slots, struct_fields_spelt, names_spelt, name_of_number, function_named, slot_of_number}
 use Rattle.read_back.proofs.Fits.{fits}
-use Rattle.read_back.proofs.Joined.{four, five, six}
+use Rattle.read_back.proofs.Joined.{four, five}
 use Rattle.read_back.proofs.Parts.{Part, after_part, part_as, part_does, part_of, acted, PushesWord, PushesExpr, spaced_arrow, spaced_equal, a_dot, a_blank, keyword, bare_word, a_name, a_new_name, an_expr}
-use Rattle.read_back.proofs.Fills.{a_point, FillFits, LiftFills, braced_fills, fills_stop}
+use Rattle.read_back.proofs.Fills.{a_point, word_part, FillFits}
+use Rattle.read_back.proofs.PartTexts.{PartFits, AddedFits, all_parts}
+use Rattle.read_back.proofs.PointAgain.{sites_kept, filled_kept, point_again}
 
 -- One more entry, which lifts to this one, stands behind those before it.
 abbrev pub Adds : Link → LEntry → List Value → List Value → Type 0
@@ -66,12 +74,12 @@ Adds k y vs ws = (m : Mapping) (others : List Value) → vs ≡ value.Mapping m 
 abbrev pub ReadsEntry : Link → LEntry → Type 0
 ReadsEntry k y = (rest : List ℕ) (at : ℕ) → Stops rest → Part (Expand rule.Entry ∷ []) (Adds k y) (entry_text k y) rest at
 
--- A name that can be spelt.
-word_part : (word rest : List ℕ) (at : ℕ) → IsSpelt word → Stops rest → Part (Expand rule.AnyName ∷ []) (PushesWord word) word rest at
-word_part word rest at h stops =
-    let y = named_of word h in
-    subst (λ w. Part (Expand rule.AnyName ∷ []) (PushesWord w) w rest at) (sym y.is) (a_name y.head y.tail rest at y.name stops)
+-- An entry that is no point.
+other_entry : {f : List Symbol} {R : List Value → List Value → Type 0} {bytes rest : List ℕ} {at : ℕ} → Part f R bytes rest at → Among f (choices rule.OtherEntry)
+    → Part (Expand rule.Entry ∷ []) R bytes rest at
+other_entry x among = part_of rule.Entry (part_of rule.OtherEntry x among) first
 
+-- A name that can be spelt, and isn't the word `none`.
 new_part : (word rest : List ℕ) (at : ℕ) → IsSpelt word → (map_word_kind word ≡ kind.NoneWord → ⊥) → Stops rest → Part (Expand rule.NewName ∷ []) (PushesWord word) word rest at
 new_part word rest at h named stops =
     let y = named_of word h in
@@ -164,7 +172,7 @@ match_part k can_old can_new i a b y small side lifts q =
     (word_part a ((codes " -> " ++ new_text b) ++ rest) x (names_spelt k.old can_old i q.from a (number_at (names_in k.old i) a q.from q.from_found)) refl)
     (after_part (codes " -> ") (new_text b) rest z (spaced_arrow (new_text b ++ rest) z)
     (target_part i a b rest (z + 4) (new_side_spelt i k.new can_new b q.to q.to_found side) stops))) in
-    part_of rule.Entry (part_as (entry_text k (l.Match i q.from q.to)) text rest at same
+    other_entry (part_as (entry_text k (l.Match i q.from q.to)) text rest at same
     (part_does part (λ vs ws h m others e.
     let s = h.1 in
     let word = h.2.1 in
@@ -229,7 +237,7 @@ field_part k can_old can_new owner name x y kept q =
     (word_part name (d ++ rest) (j + 1) (struct_fields_spelt k.new can_new q.struct q.field name (number_at (slot_names (struct_of k.new q.struct).fields) name q.field q.field_found)) refl)
     (after_part (codes " = ") expr rest u (spaced_equal (expr ++ rest) u)
     (expr_part r (can_spell k.old can_old None (origin k.structs q.struct)) x q.value rest (u + 3) kept (suited_is (suits_slot k r (struct_of k.new q.struct).fields q.field) (numbered r x.kind) q.value q.filled) stops)))))) in
-    part_of rule.Entry (part_as (entry_text k (l.Field q.struct q.field q.value)) (codes "field " ++ a) rest at same
+    other_entry (part_as (entry_text k (l.Field q.struct q.field q.value)) (codes "field " ++ a) rest at same
     (part_does part (λ vs ws h m others e.
     let begin = h.1.1 in
     let first_word = h.1.2.1 in
@@ -273,7 +281,7 @@ init_part k can_old can_new name x y kept q =
     (after_part name d rest i (word_part name (d ++ rest) i (names_spelt k.new can_new 2 q.global name (number_at (names_in k.new 2) name q.global q.global_found)) refl)
     (after_part (codes " = ") expr rest u (spaced_equal (expr ++ rest) u)
     (expr_part r (can_spell k.old can_old None None) x q.value rest (u + 3) kept (suited_is (suits_global k q.global) (numbered r x.kind) q.value q.filled) stops)))) in
-    part_of rule.Entry (part_as (entry_text k (l.Init q.global q.value)) (codes "init " ++ a) rest at same
+    other_entry (part_as (entry_text k (l.Init q.global q.value)) (codes "init " ++ a) rest at same
     (part_does part (λ vs ws h m others e.
     let begin = h.1.1 in
     let word = h.1.2.1 in
@@ -301,7 +309,7 @@ check_part k can_old x y kept q =
     acted action.CheckEntry
     (after_part (codes "check ") expr rest at (keyword kind.CheckWord 99 (codes "heck") (expr ++ rest) at check_word refl (λ f. cc) refl)
     (expr_part r (can_spell k.old can_old None None) x q.value rest (at + 6) kept (suited_is (suits_check k) (numbered r x.kind) q.value q.filled) stops)) in
-    part_of rule.Entry (part_does part (λ vs ws h m others e.
+    other_entry (part_does part (λ vs ws h m others e.
     let begin = h.1.1 in
     let tree = h.1.2 in (
       begin.0,
@@ -309,7 +317,7 @@ check_part k can_old x y kept q =
       ap (λ o. onward (ok_or o c.BadExpr) (λ z. Ok (l.Check z))) (suited_again (suits_check k) (numbered r x.kind) (numbered r tree.0.expr.kind) q.value q.filled tree.1),
       h.2 ∙ ap (λ us. value_effect action.CheckEntry us)
           (tree.2 ∙ ap (λ us. value.Operand tree.0 ∷ us) (begin.2 ∙ ap (λ us. value.Word (token_at (token.Word (codes "check")) begin.0 begin.1) ∷ us) e)),
-    ))) (later (later (later (later first)))))
+    ))) (later (later (later first))))
 
 -- What fills the slots of a place.
 fill_fits : (k : Link) (r : Reads) → CanSpell r → (slots : List Slot) → ((i : ℕ) (name : List ℕ) → slice_get (slot_names slots) i ≡ Some name → IsSlotSpelt name) → (f : Fill) (v : LFill)
@@ -353,86 +361,69 @@ pub all_sorted : {A : Type 0} (P : A → Type 0) (before : A → A → Bool) (xs
 all_sorted P before [] all = tt
 all_sorted P before (x ∷ xs) all = all_placed P before x (sorted_by before xs) all.0 (all_sorted P before xs all.1)
 
-all_there_again : (k : Link) (r : Reads) (slots : List Slot) (fs : List Fill) (values : List LFill) → LiftFills k r slots fs values → all_there (map (lifted_fill k r slots) fs) ≡ Some values
-all_there_again k r slots [] [] w = refl
-all_there_again k r slots [] (v ∷ values) w = absurd w
-all_there_again k r slots (f ∷ fs) [] w = absurd w
-all_there_again k r slots (f ∷ fs) (v ∷ values) w =
-    ap (λ o. both o (all_there (map (lifted_fill k r slots) fs))) w.0 ∙ ap (λ o. both (Some v) o) (all_there_again k r slots fs values w.1)
-
 -- A place.
 point_word : IsWord 112 (codes "oint")
 point_word = record { letter = refl; run = refl; short = refl }
 
-function_named : (p : Lifted) (name : List ℕ) (f : ℕ) → find_name name (names_in p 0) ≡ Some f → (function_of p f).name ≡ name
-function_named p name f e = at p.functions f ∙ name_of_number (names_in p 0) name f e
+-- What a part lifts to fits, if its limits are kept.
+part_fits : (k : Link) → CanBeSpelt k.old → CanBeSpelt k.new → (f g : ℕ) (p : MapPart) (x : LPart) → IsKeptPart p → PartForm k f g p x → PartFits k f (part_in_order x)
+part_fits k can_old can_new f g p x kept form =
+    let r = reads_slots k f in
+    let slots = (function_of k.new x.function).slots in
+    record {
+      point = p.point;
+      kept = kept.0;
+      found = form.0.1;
+      fills = all_sorted (FillFits k r slots) (λ a b. nat_lt a.slot b.slot) x.fills
+          (fills_fit k r (can_spell k.old can_old (Some f) None) slots (function_slots k.new can_new x.function) p.fills x.fills (recursion_from_All (λ z. IsKeptExpr z.expr) p.fills kept.1) form.1);
+    }
+
+added_fits : (k : Link) → CanBeSpelt k.old → CanBeSpelt k.new → (f g : ℕ) (p : MapPart) (x : LPart) → IsAddedPart p → IsKeptPart p → PartForm k f g p x → AddedFits k f (part_in_order x)
+added_fits k can_old can_new f g p x added kept form = go p.function refl
   where
-    at : (fs : List LFunction) (f : ℕ) → (slice_index_or fs f (function_of (record p { functions = [] }) 0)).name ≡ slice_index_or (map (λ x. x.name) fs) f []
-    at [] f = refl
-    at (x ∷ fs) zero = refl
-    at (x ∷ fs) (suc f) = at fs f
+    go : (o : Option (List ℕ)) → p.function ≡ o → AddedFits k f (part_in_order x)
+    go None e = let no : false ≡ true = ap is_some (sym e) ∙ added.0 in cc
+    go (Some name) e = record { name = name; named = ap (λ o. function_in k g o) (sym e) ∙ form.0.0; part = part_fits k can_old can_new f g p x kept form }
 
-point_again : (k : Link) (name : List ℕ) (from to : Pt) (fills : List Fill) (y : LEntry) (q : PointForm k name from to fills y) (fs : List Fill) (values : List LFill)
-    → LiftFills k (reads_slots k q.function) (function_of k.new q.match).slots fs values → has_twice (map (λ x. x.slot) values) ≡ false
-    → lifted_entry k (n.Point name from to fs) ≡ Ok (l.Point q.function q.old_place q.new_place values)
-point_again k name from to fills y q fs values lift once =
-    let there = all_there_again k (reads_slots k q.function) (function_of k.new q.match).slots fs values lift in
-    ap (λ o. onward (ok_or o c.UnknownFunction) after_function) q.function_found
-    ∙ (ap (λ o. onward (ok_or o c.UnknownFunction) (after_match q.function)) q.matched
-    ∙ (ap (λ o. onward (ok_or o c.UnknownPoint) (after_old q.function q.match)) q.old_found
-    ∙ (ap (λ o. onward (ok_or o c.UnknownPoint) (after_new q.function q.match q.old_place)) q.new_found
-    ∙ (ap (λ t. refuse_if t c.KindDiffers (refuse_if (callees_differ k (site q.function q.old_place) (site q.match q.new_place)) c.CalleeDiffers (filled q.function q.match q.old_place q.new_place))) q.kind_kept
-    ∙ (ap (λ t. refuse_if t c.CalleeDiffers (filled q.function q.match q.old_place q.new_place)) q.callee_kept
-    ∙ (ap (λ o. onward (ok_or o c.BadExpr) (once_filled q.function q.old_place q.new_place)) there
-    ∙ ap (λ t. refuse_if t c.Twice (Ok (l.Point q.function q.old_place q.new_place values))) once))))))
-  where
-    once_filled : ℕ → ℕ → ℕ → List LFill → Result LEntry EntryCause
-    once_filled f a b xs = refuse_if (has_twice (map (λ x. x.slot) xs)) c.Twice (Ok (l.Point f a b xs))
+all_fit : (k : Link) → CanBeSpelt k.old → CanBeSpelt k.new → (f g : ℕ) (ps : List MapPart) (xs : List LPart) → AllByRecursion IsAddedPart ps → AllByRecursion IsKeptPart ps
+    → AllZip (PartForm k f g) ps xs → AllByRecursion (AddedFits k f) (map part_in_order xs)
+all_fit k can_old can_new f g [] [] added kept forms = tt
+all_fit k can_old can_new f g [] (x ∷ xs) added kept forms = absurd forms
+all_fit k can_old can_new f g (p ∷ ps) [] added kept forms = absurd forms
+all_fit k can_old can_new f g (p ∷ ps) (x ∷ xs) added kept forms =
+    (added_fits k can_old can_new f g p x added.0 kept.0 forms.0, all_fit k can_old can_new f g ps xs added.1 kept.1 forms.1)
 
-    filled : ℕ → ℕ → ℕ → ℕ → Result LEntry EntryCause
-    filled f g a b = onward (ok_or (all_there (map (lifted_fill k (reads_slots k f) (function_of k.new g).slots) fs)) c.BadExpr) (once_filled f a b)
+-- as many parts by numbers as there are parts
+as_many : {A B : Type 0} (P : A → B → Type 0) (xs : List A) (ys : List B) → AllZip P xs ys → length ys ≡ length xs
+as_many P [] [] h = refl
+as_many P [] (y ∷ ys) h = absurd h
+as_many P (x ∷ xs) [] h = absurd h
+as_many P (x ∷ xs) (y ∷ ys) h = ap (λ n. suc n) (as_many P xs ys h.1)
 
-    after_new : ℕ → ℕ → ℕ → ℕ → Result LEntry EntryCause
-    after_new f g a b = refuse_if (kinds_differ k (site f a) (site g b)) c.KindDiffers (refuse_if (callees_differ k (site f a) (site g b)) c.CalleeDiffers (filled f g a b))
-
-    after_old : ℕ → ℕ → ℕ → Result LEntry EntryCause
-    after_old f g a = onward (ok_or (place_of (function_of k.new g) to) c.UnknownPoint) (after_new f g a)
-
-    after_match : ℕ → ℕ → Result LEntry EntryCause
-    after_match f g = onward (ok_or (place_of (function_of k.old f) from) c.UnknownPoint) (after_old f g)
-
-    after_function : ℕ → Result LEntry EntryCause
-    after_function f = onward (ok_or (match_at k.functions f) c.UnknownFunction) (after_match f)
-
-point_part : (k : Link) → CanBeSpelt k.old → CanBeSpelt k.new → (name : List ℕ) (from to : Pt) (fills : List Fill) (y : LEntry) → IsKeptPoint from → IsKeptPoint to
-    → AllByRecursion (λ f. IsKeptExpr f.expr) fills → PointForm k name from to fills y → ReadsEntry k (with_fills_in_order y)
+point_part : (k : Link) → CanBeSpelt k.old → CanBeSpelt k.new → (name : List ℕ) (from : Pt) (p : MapPart) (added : List MapPart) (y : LEntry) → IsKeptPoint from
+    → AreReadParts (p ∷ added) → AllByRecursion IsKeptPart (p ∷ added) → (q : PointForm k name from (p ∷ added) y) → (x : LPart) (more : List LPart) → q.values ≡ x ∷ more
+    → AllZip (PartForm k q.function q.match) (p ∷ added) (x ∷ more) → ReadsEntry k (with_fills_in_order y)
 unfolding map_word_kind word_kind map_words words
-point_part k can_old can_new name from to fills y kept_from kept_to kept q =
-    subst (λ z. ReadsEntry k (with_fills_in_order z)) q.is (λ rest at stops.
-    let r = reads_slots k q.function in
-    let slots = (function_of k.new q.match).slots in
-    let values = fills_in_order q.values in
+point_part k can_old can_new name from p added y kept_from form kept q x more are forms =
+    subst (λ z. ReadsEntry k (with_fills_in_order z)) (ap (λ zs. l.Point q.function q.old_place zs) (sym are) ∙ q.is) (λ rest at stops.
     let old = function_of k.old q.function in
-    let new = function_of k.new q.match in
-    let fit : AllByRecursion (FillFits k r slots) values =
-    all_sorted (FillFits k r slots) (λ a b. nat_lt a.slot b.slot) q.values
-    (fills_fit k r (can_spell k.old can_old (Some q.function) None) slots (function_slots k.new can_new q.match) fills q.values kept q.filled) in
-    let g = fills_text r slots values in
-    let d = point_text to ++ g in
+    let x' = part_in_order x in
+    let more' = map part_in_order more in
+    let few : length more' ≤ 3 = let n : length more ≡ length added = as_many (PartForm k q.function q.match) added more forms.1 in rw length-map (omega (arith, n, form.2.2.0)) in
+    let matched : ◌≡◌ {A = Option ℕ} (Some q.match) (Some x.function) = ap (λ o. function_in k q.match o) (sym form.0) ∙ forms.0.0.0 in
+    let others = all_fit k can_old can_new q.function q.match added more (recursion_from_All IsAddedPart added form.2.2.1) kept.1 forms.1 in
+    let d = parts_text k q.function (x' ∷ more') in
     let c' = codes " -> " ++ d in
     let b = point_text from ++ c' in
     let a = name ++ ((32 ∷ []) ++ b) in
-    let entry = l.Point q.function q.old_place q.new_place values in
+    let entry = l.Point q.function q.old_place (x' ∷ more') in
     let same : entry_text k entry ≡ codes "point " ++ a =
-    ap (λ f. codes "point " ++ old.name ++ 32 ∷ point_text (point_of old q.old_place) ++ codes " -> " ++ point_text (point_of (function_of k.new f) q.new_place) ++ fills_text r (function_of k.new f).slots values)
-    (ap (λ o. unwrap_or o 0) q.matched)
-    ∙ (ap (λ w. codes "point " ++ w ++ 32 ∷ point_text (point_of old q.old_place) ++ codes " -> " ++ point_text (point_of new q.new_place) ++ g) (function_named k.old name q.function q.function_found)
-    ∙ (ap (λ p. codes "point " ++ name ++ 32 ∷ point_text p ++ codes " -> " ++ point_text (point_of new q.new_place) ++ g) (point_found old from q.old_place q.old_found)
-    ∙ (ap (λ p. codes "point " ++ name ++ 32 ∷ point_text from ++ codes " -> " ++ point_text p ++ g) (point_found new to q.new_place q.new_found) ∙ six (codes "point ") name (32 ∷ point_text from) (codes " -> ") (point_text to) g))) in
+    ap (λ w. codes "point " ++ w ++ 32 ∷ point_text (point_of old q.old_place) ++ codes " -> " ++ d) (function_named k.old name q.function q.function_found)
+    ∙ (ap (λ z. codes "point " ++ name ++ 32 ∷ point_text z ++ codes " -> " ++ d) (point_found old from q.old_place q.old_found)
+    ∙ five (codes "point ") name (32 ∷ point_text from) (codes " -> ") d) in
     let i = at + 6 in
     let j = i + length name in
     let u = j + 1 + length (point_text from) in
-    let v = u + 4 + length (point_text to) in
     let part =
     acted action.PointEntry
     (after_part (codes "point ") a rest at (keyword kind.PointWord 112 (codes "oint") (a ++ rest) at point_word refl (λ f. cc) refl)
@@ -440,21 +431,31 @@ point_part k can_old can_new name from to fills y kept_from kept_to kept q =
     (after_part (32 ∷ []) b rest j (a_blank (b ++ rest) j)
     (after_part (point_text from) c' rest (j + 1) (a_point from.kind from.number (c' ++ rest) (j + 1) kept_from refl)
     (after_part (codes " -> ") d rest u (spaced_arrow (d ++ rest) u)
-    (after_part (point_text to) g rest (u + 4) (a_point to.kind to.number (g ++ rest) (u + 4) kept_to (fills_stop r slots values rest stops))
-    (braced_fills k r slots values rest v fit))))))) in
+    (all_parts k can_new q.function q.match x' more' rest (u + 4) stops few matched (part_fits k can_old can_new q.function q.match p x kept.0 forms.0) others)))))) in
     part_of rule.Entry (part_as (entry_text k entry) (codes "point " ++ a) rest at same
     (part_does part (λ vs ws h m others e.
     let begin = h.1.1 in
     let word = h.1.2.1 in
-    let fs = h.1.2.2.2.2.2.2 in (
+    let ps = h.1.2.2.2.2.2 in (
       begin.0,
-      n.Point name from to fs.0,
-      point_again k name from to fills y q fs.0 values fs.1 (twice_kept q.values ∙ q.once),
+      n.Point name from ps.0,
+      point_again k name from (p ∷ added) y q ps.0 (x' ∷ more') ps.1
+          (ap (map part_site) (sym (ap (map part_in_order) are)) ∙ sites_kept q.values) (ap (list_any is_twice_filled) (sym (ap (map part_in_order) are)) ∙ (filled_kept q.values ∙ q.once)),
       h.2 ∙ ap (λ us. value_effect action.PointEntry us)
-          (fs.2 ∙ ap (λ us. value.Fills fs.0 ∷ us) (h.1.2.2.2.2.2.1 ∙ ap (λ us. value.Pt to ∷ us) (h.1.2.2.2.2.1 ∙ (h.1.2.2.2.1 ∙ ap (λ us. value.Pt from ∷ us) (h.1.2.2.1
+          (ps.2 ∙ ap (λ us. value.Parts ps.0 ∷ us) (h.1.2.2.2.2.1 ∙ (h.1.2.2.2.1 ∙ ap (λ us. value.Pt from ∷ us) (h.1.2.2.1
           ∙ (word.2 ∙ ap (λ us. value.Word (token_at (token.Word name) word.0 word.1) ∷ us) (begin.2
-          ∙ ap (λ us. value.Word (token_at (token.Word (codes "point")) begin.0 begin.1) ∷ us) e))))))),
-    )))) (later (later (later first))))
+          ∙ ap (λ us. value.Word (token_at (token.Word (codes "point")) begin.0 begin.1) ∷ us) e)))))),
+    )))) (later first))
+
+-- A point that was lifted has parts, and as many by numbers.
+point_reads : (k : Link) → CanBeSpelt k.old → CanBeSpelt k.new → (name : List ℕ) (from : Pt) (parts : List MapPart) (y : LEntry) → IsKeptPoint from → AreReadParts parts
+    → AllByRecursion IsKeptPart parts → PointForm k name from parts y → ReadsEntry k (with_fills_in_order y)
+point_reads k can_old can_new name from [] y kept_from form kept q = absurd form
+point_reads k can_old can_new name from (p ∷ added) y kept_from form kept q = go q.values refl q.parts_found
+  where
+    go : (xs : List LPart) → q.values ≡ xs → AllZip (PartForm k q.function q.match) (p ∷ added) xs → ReadsEntry k (with_fills_in_order y)
+    go [] e forms = absurd forms
+    go (x ∷ more) e forms = point_part k can_old can_new name from p added y kept_from form kept q x more e forms
 
 no_fills : (y z : LEntry) → z ≡ y → with_fills_in_order z ≡ z → y ≡ with_fills_in_order y
 no_fills y z e s = sym (ap with_fills_in_order (sym e) ∙ (s ∙ e))
@@ -470,8 +471,8 @@ entry_reads k can_old can_new (n.Field owner name x) y kept lifts =
 entry_reads k can_old can_new (n.Init name x) y kept lifts =
     let q = entry_form k (n.Init name x) y lifts in
     subst (λ z. ReadsEntry k z) (no_fills y (l.Init q.global q.value) q.is refl) (init_part k can_old can_new name x y kept q)
-entry_reads k can_old can_new (n.Point f from to fills) y kept lifts =
-    point_part k can_old can_new f from to fills y kept.0 kept.1 (recursion_from_All (λ f. IsKeptExpr f.expr) fills kept.2) (entry_form k (n.Point f from to fills) y lifts)
+entry_reads k can_old can_new (n.Point f from parts) y kept lifts =
+    point_reads k can_old can_new f from parts y kept.0 kept.1 (recursion_from_All IsKeptPart parts kept.2) (entry_form k (n.Point f from parts) y lifts)
 entry_reads k can_old can_new (n.Check x) y kept lifts =
     let q = entry_form k (n.Check x) y lifts in
     subst (λ z. ReadsEntry k z) (no_fills y (l.Check q.value) q.is refl) (check_part k can_old x y kept q)

@@ -1,12 +1,18 @@
 -- What the actions make of the parts of entries.
-use Rattle.std.specs.Prelude.{◌≡◌, ◌≢◌, ◌&&◌, ℕ, ◌≤◌, nat_lt, IsTrue, Bool, true, false, List, [], ◌∷◌}
+use Rattle.std.specs.Prelude.{◌≡◌, ◌≢◌, ◌&&◌, ℕ, ◌≤◌, nat_lt, not, length, Option, Some, None, IsTrue, Bool, true, false, List, [], ◌∷◌, All}
 use Rattle.std.specs.Str.{bytes_eq}
 use Rattle.std.specs.List.{list_all}
 use Rattle.std.proofs.Common.{refl, sym, ◌∙◌, ap, arith, cond}
-use Rattle.std.proofs.lemmas.List.Elements.{All-nil, All-push}
+use Rattle.std.proofs.lemmas.List.Elements.{All-nil, All-cons, All-head, All-tail, All-push}
 use Rattle.c_tree.specs.declared.mapping.Entry.{Entry}
+use Rattle.c_tree.specs.declared.mapping.Fill.{Fill}
 use Rattle.c_tree.specs.declared.mapping.Mapping.{Mapping}
+use Rattle.c_tree.specs.declared.mapping.Part.{Part}
 use Rattle.c_tree.specs.declared.mapping.Pt.{Pt}
+use Rattle.c_tree.specs.declared.place.PlaceKind.{PlaceKind}
+use Rattle.c_tree.specs.declared.place.PlaceKind.TheVariants as place
+use Rattle.c_tree.specs.MapForm.{IsReadPoint, IsAddedPart}
+use Rattle.c_tree.specs.Points.{is_kind}
 use Rattle.c_tree.specs.declared.token.Token.{Token}
 use Rattle.c_tree.specs.declared.token.TokenKind.{TokenKind}
 use Rattle.c_tree.specs.declared.token.TokenKind.TheVariants as token
@@ -22,8 +28,8 @@ use Rattle.c_grammar.specs.Tokens.{kind_in, kind_of, map_kind_of, word_kind, map
 use Rattle.c_grammar.specs.Values.{mapping_in, fills_in}
 use Rattle.c_grammar.specs.Words.{map_words, words}
 use Rattle.c_grammar.specs.Words as of
-use Rattle.read_back.specs.Kept.{IsKeptExpr, IsKeptNumber, IsKeptPoint, IsKeptEntry, IsKept}
-use Rattle.read_back.proofs.Contracts.{Made, Doc, Filled, NewWord}
+use Rattle.read_back.specs.Kept.{IsKeptExpr, IsKeptNumber, IsKeptPoint, IsKeptPart, IsKeptEntry, IsKept}
+use Rattle.read_back.proofs.Contracts.{Made, Doc, Filled, Begun, Parted, NewWord}
 use Rattle.read_back.proofs.Literals.{HasLiteral}
 use Rattle.read_back.proofs.Operands.{is_kept, natural_of}
 
@@ -101,14 +107,108 @@ check_done word {behind = behind} depth state d x flat = record {
 }
 
 -- a mapped place
-pub point_done : (word f : Token) (from to : Pt) (m : Mapping) (behind : List Value) (state : State) → IsKept m → IsKeptPoint from → IsKeptPoint to
-    → Filled (value.Pt to ∷ value.Pt from ∷ value.Word f ∷ value.Word word ∷ value.Mapping m ∷ behind) state → Doc behind (effect action.PointEntry state)
-point_done word f from to m behind state h i j x = record {
-  mapping = after_action action.PointEntry (value.Fills x.fills ∷ value.Pt to ∷ value.Pt from ∷ value.Word f ∷ value.Word word ∷ value.Mapping m ∷ behind);
+pub point_done : (word f : Token) (from : Pt) (m : Mapping) (behind : List Value) (state : State) → IsKept m → IsKeptPoint from
+    → Parted (value.Pt from ∷ value.Word f ∷ value.Word word ∷ value.Mapping m ∷ behind) state → Doc behind (effect action.PointEntry state)
+point_done word f from m behind state h i x = record {
+  mapping = after_action action.PointEntry (value.Parts x.parts ∷ value.Pt from ∷ value.Word f ∷ value.Word word ∷ value.Mapping m ∷ behind);
   values = ap (value_effect action.PointEntry) x.values;
-  kept = more_entries m _ _ h (i, j, x.kept);
+  kept = more_entries m _ _ h (i, (x.form, x.kept));
   flat = omega (arith, x.flat);
 }
+
+-- the parts of a point
+read_number : (k : PlaceKind) (i : ℕ) → IsKeptNumber k i → IsTrue (not (is_kind place.Plain k))
+read_number place.Plain i h = absurd h
+read_number k i h = refl
+
+pub read_point : (pt : Pt) → IsKeptPoint pt → IsReadPoint pt
+read_point pt h = read_number pt.kind pt.number h
+
+pub first_begun : (pt : Pt) (behind : List Value) {before : List Value} (state : State) → IsKeptPoint pt → before ≡ value.Pt pt ∷ behind → Filled before state → Begun [] behind state
+first_begun pt behind state kept at x = record {
+  point = pt;
+  fills = x.fills;
+  values = x.values ∙ ap (λ w. value.Fills x.fills ∷ w) at;
+  kept_point = kept;
+  kept = x.kept;
+  added_form = All-nil IsAddedPart;
+  added_kept = All-nil IsKeptPart;
+  flat = x.flat;
+}
+
+pub more_begun : (p : Part) (added : List Part) (behind : List Value) (before state : State) → Begun added behind before → state.values ≡ value.Part p ∷ before.values
+    → IsAddedPart p → IsKeptPart p → state.depth ≡ 0 → Begun (p ∷ added) behind state
+more_begun p added behind before state b at form kept flat = record {
+  point = b.point;
+  fills = b.fills;
+  values = at ∙ ap (λ w. value.Part p ∷ w) b.values;
+  kept_point = b.kept_point;
+  kept = b.kept;
+  added_form = All-cons IsAddedPart p added form b.added_form;
+  added_kept = All-cons IsKeptPart p added kept b.added_kept;
+  flat = flat;
+}
+
+-- the same with one more token that is let go
+pub begun_past : {added : List Part} {behind : List Value} (t : Token) (state : State) → Begun added behind state → Begun added behind (with_token mark.Skip (value.Word t) state)
+begun_past t state b = record {
+  point = b.point;
+  fills = b.fills;
+  values = b.values;
+  kept_point = b.kept_point;
+  kept = b.kept;
+  added_form = b.added_form;
+  added_kept = b.added_kept;
+  flat = omega (arith, b.flat);
+}
+
+-- a first part and those added behind it
+part_of_first : {added : List Part} {behind : List Value} {state : State} → Begun added behind state → Part
+part_of_first b = record { function = None; point = b.point; fills = b.fills }
+
+parted : {added : List Part} {behind : List Value} {before : State} (b : Begun added behind before) (rest : List Part) (state : State)
+    → state.values ≡ value.Parts (part_of_first b ∷ rest) ∷ behind → length rest ≤ 3 → All IsAddedPart rest → All IsKeptPart rest → state.depth ≡ 0 → Parted behind state
+parted b rest state is le form kept flat = record {
+  parts = part_of_first b ∷ rest;
+  values = is;
+  form = (refl, (read_point b.point b.kept_point, (le, form)));
+  kept = All-cons IsKeptPart (part_of_first b) rest (b.kept_point, b.kept) kept;
+  flat = flat;
+}
+
+pub one_parted : (behind : List Value) (state : State) → Begun [] behind state → Parted behind (effect action.OnePart state)
+one_parted behind state b = parted b [] (effect action.OnePart state) (ap (value_effect action.OnePart) b.values) (omega arith) b.added_form b.added_kept (omega (arith, b.flat))
+
+turned : {P : Part → Type 0} (p q : Part) → All P (q ∷ p ∷ []) → All P (p ∷ q ∷ [])
+turned {P} p q h = All-cons P p (q ∷ []) (All-head P p [] (All-tail P q (p ∷ []) h)) (All-cons P q [] (All-head P q (p ∷ []) h) (All-nil P))
+
+turned_three : {P : Part → Type 0} (p q r : Part) → All P (r ∷ q ∷ p ∷ []) → All P (p ∷ q ∷ r ∷ [])
+turned_three {P} p q r h =
+    let two : All P (p ∷ q ∷ []) = turned p q (All-tail P r (q ∷ p ∷ []) h) in
+    All-cons P p (q ∷ r ∷ []) (All-head P p (q ∷ []) two)
+    (All-cons P q (r ∷ []) (All-head P q [] (All-tail P p (q ∷ []) two)) (All-cons P r [] (All-head P r (q ∷ p ∷ []) h) (All-nil P)))
+
+pub two_parted : (p : Part) (behind : List Value) (state : State) → Begun (p ∷ []) behind state → Parted behind (effect action.TwoParts state)
+two_parted p behind state b =
+    parted b (p ∷ []) (effect action.TwoParts state) (ap (value_effect action.TwoParts) b.values) (omega arith) b.added_form b.added_kept (omega (arith, b.flat))
+
+pub three_parted : (p q : Part) (behind : List Value) (state : State) → Begun (q ∷ p ∷ []) behind state → Parted behind (effect action.ThreeParts state)
+three_parted p q behind state b =
+    parted b (p ∷ q ∷ []) (effect action.ThreeParts state) (ap (value_effect action.ThreeParts) b.values) (omega arith)
+    (turned p q b.added_form) (turned p q b.added_kept) (omega (arith, b.flat))
+
+pub four_parted : (p q r : Part) (behind : List Value) (state : State) → Begun (r ∷ q ∷ p ∷ []) behind state → Parted behind (effect action.FourParts state)
+four_parted p q r behind state b =
+    parted b (p ∷ q ∷ r ∷ []) (effect action.FourParts state) (ap (value_effect action.FourParts) b.values) (omega arith)
+    (turned_three p q r b.added_form) (turned_three p q r b.added_kept) (omega (arith, b.flat))
+
+-- an added part
+abbrev pub part_added : Token → Pt → List Fill → Part
+part_added name pt fills = record { function = Some (text_of name.kind); point = pt; fills = fills }
+
+pub added_is : (name : Token) (pt : Pt) (behind : List Value) {before : List Value} (state : State) → before ≡ value.Pt pt ∷ value.Word name ∷ behind → (x : Filled before state)
+    → (effect action.AddPart state).values ≡ value.Part (part_added name pt x.fills) ∷ behind
+added_is name pt behind state at x = ap (value_effect action.AddPart) (x.values ∙ ap (λ w. value.Fills x.fills ∷ w) at)
 
 pub number_point : (word n : Token) → HasLiteral n.kind → IsKeptPoint (record { kind = place_of (map_kind_of word.kind); number = natural (number_of n.kind) })
 number_point word n h = point_is (map_kind_of word.kind) (natural (number_of n.kind)) (natural_of n.kind h)

@@ -1,6 +1,6 @@
 -- The points of an entry, and what fills its slots, from their text.
-use Rattle.std.proofs.Common.{◌≡◌, ℕ, suc, ◌+◌, ◌≤◌, pos, true, List, [], ◌∷◌, ◌++◌, length, Option, Some, None, refl, sym, ◌∙◌, ap, append_assoc, append-nil}
-use Rattle.std.specs.Prelude.{codes, if◌then◌else◌}
+use Rattle.std.proofs.Common.{◌≡◌, ℕ, suc, ◌+◌, ◌≤◌, pos, true, List, [], ◌∷◌, ◌++◌, length, Option, Some, None, refl, sym, ◌∙◌, ap, subst, append_assoc, append-nil}
+use Rattle.std.specs.Prelude.{codes, map, if◌then◌else◌}
 use Rattle.std.specs.Fmt.{decimal}
 use Rattle.std.specs.List.{flat_map, AllZip, AllByRecursion}
 use Rattle.std.specs.Option.{option_map}
@@ -14,6 +14,7 @@ use Rattle.c_tree.specs.declared.mapping.Fill.{Fill}
 use Rattle.c_tree.specs.declared.mapping.LFill.{LFill}
 use Rattle.c_tree.specs.Names.{find_name, slot_names}
 use Rattle.c_tree.specs.Link.{Link}
+use Rattle.c_tree.specs.Entries.{both, all_there}
 use Rattle.c_tree.specs.MapExpr.{Reads, numbered}
 use Rattle.c_tree.specs.Suits.{suits_slot}
 use Rattle.c_tree.specs.Chain.{suited, lifted_fill_at, lifted_fill}
@@ -32,12 +33,13 @@ use Rattle.c_grammar.specs.Tokens.{map_word_kind, word_kind}
 use Rattle.c_grammar.specs.Effects.{value_effect}
 use Rattle.c_grammar.specs.Words.{words, map_words}
 use Rattle.c_grammar.specs.Reading.{first, later}
+use Rattle.c_reader.specs.Spelling.{IsSpelt}
 use Rattle.c_reader.proofs.Keeps.{expands}
 use Rattle.read_back.specs.Kept.{IsKeptNumber}
 use Rattle.read_back.proofs.Printed.{token_at}
 use Rattle.read_back.proofs.Scan.{Stops, IsWord}
 use Rattle.read_back.proofs.Shown.{Spelling, plain_name, hidden_name, temporary_name, Fit}
-use Rattle.read_back.proofs.Spelt.{slot_of_number}
+use Rattle.read_back.proofs.Spelt.{named_of, slot_of_number}
 use Rattle.read_back.proofs.Joined.{four}
 use Rattle.read_back.proofs.Parts.{Part, after_part, part_as, part_does, part_of, acted, no_text, nothing_taken, PushesWord, spaced_equal, a_dot, spaced_semicolon, left_brace, right_brace, keyword, bare_word, a_name, a_number, an_expr}
 
@@ -111,6 +113,12 @@ a_slot rest at (temporary_name n le) stops =
       h.2 ∙ ap (λ us. value_effect action.TempName us) (number.2 ∙ ap (λ us. value.Word (token_at (token.Number (pos n)) number.0 number.1) ∷ us) h.1.1),
     ))) (later first)
 
+-- A name that can be spelt.
+pub word_part : (word rest : List ℕ) (at : ℕ) → IsSpelt word → Stops rest → Part (Expand rule.AnyName ∷ []) (PushesWord word) word rest at
+word_part word rest at h stops =
+    let y = named_of word h in
+    subst (λ w. Part (Expand rule.AnyName ∷ []) (PushesWord w) w rest at) (sym y.is) (a_name y.head y.tail rest at y.name stops)
+
 -- What fills a slot: its slot has a name that can be spelt, and its expression keeps the limits and suits the slot.
 pub record FillFits (k : Link) (r : Reads) (slots : List Slot) (v : LFill) : Type 0 where
   pub name : List ℕ
@@ -165,6 +173,13 @@ a_fill k r slots v rest at y =
 -- All that fills slots, behind those before it.
 abbrev pub LiftFills : Link → Reads → List Slot → List Fill → List LFill → Type 0
 LiftFills k r slots fs vs = AllZip (LiftsFill k r slots) fs vs
+
+pub fills_again : (k : Link) (r : Reads) (slots : List Slot) (fs : List Fill) (values : List LFill) → LiftFills k r slots fs values → all_there (map (lifted_fill k r slots) fs) ≡ Some values
+fills_again k r slots [] [] w = refl
+fills_again k r slots [] (v ∷ values) w = absurd w
+fills_again k r slots (f ∷ fs) [] w = absurd w
+fills_again k r slots (f ∷ fs) (v ∷ values) w =
+    ap (λ o. both o (all_there (map (lifted_fill k r slots) fs))) w.0 ∙ ap (λ o. both (Some v) o) (fills_again k r slots fs values w.1)
 
 abbrev pub AddsFills : Link → Reads → List Slot → List LFill → List Value → List Value → Type 0
 AddsFills k r slots fills vs ws = (seen : List Fill) (others : List Value) → vs ≡ value.Fills seen ∷ others → (fs : List Fill) × LiftFills k r slots fs fills × (ws ≡ value.Fills (seen ++ fs) ∷ others)

@@ -6,6 +6,3 @@ four a b c d = append_assoc (a ++ b) c d ∙ append_assoc a b (c ++ d)
 
 pub five : (a b c d e : List ℕ) → a ++ b ++ c ++ d ++ e ≡ a ++ (b ++ (c ++ (d ++ e)))
 five a b c d e = append_assoc (a ++ b ++ c) d e ∙ four a b c (d ++ e)
-
-pub six : (a b c d e f : List ℕ) → a ++ b ++ c ++ d ++ e ++ f ≡ a ++ (b ++ (c ++ (d ++ (e ++ f))))
-six a b c d e f = append_assoc (a ++ b ++ c ++ d) e f ∙ five a b c d (e ++ f)

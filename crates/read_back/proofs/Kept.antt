@@ -45,7 +45,7 @@ keeps_limits w (done e) h = subst (λ vs. IsKept (mapping_in vs)) (sym e) h
 keeps_limits w (takes_one {mark = mark} {symbols = symbols} {state = state} same le few g) h =
     let seen = w.0 in
     keeps_limits w.1 g (subst (λ v. LeadsOn symbols (with_token mark v state) (least symbols (with_token mark v state).depth)) (sym seen.value) (h seen.token (seen.kind ∙ same) seen.number le few))
-keeps_limits w (passes_on g) h = keeps_limits w g h
+keeps_limits w (passes_on n g) h = keeps_limits w g h
 keeps_limits w (acts g) h = keeps_limits w g h
 keeps_limits w (expands {r = r} {symbols = symbols} {state = state} {low = low} m g) h = keeps_limits w g (does r m symbols state low h)
 

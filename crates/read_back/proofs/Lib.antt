@@ -19,10 +19,12 @@ mod Spelt
 mod Fits
 mod Places
 mod Again
+mod PointAgain
 -- from an entry to its tokens
 mod Joined
 mod Parts
 mod Fills
+mod PartTexts
 mod Entries
 -- all of it
 mod Whole

@@ -16,9 +16,9 @@ use Rattle.c_grammar.specs.Effects.{State, binary_of, effect, with_token, value_
 use Rattle.c_grammar.specs.Reading.{Among, first, later}
 use Rattle.c_grammar.specs.Tokens.{map_kind_of}
 use Rattle.c_reader.specs.Choices.{choices}
-use Rattle.read_back.proofs.Contracts.{Claim, Level, Tail, OperatorAt, Filled, Reads, LeadsOn}
+use Rattle.read_back.proofs.Contracts.{Claim, Level, Tail, OperatorAt, Parted, Reads, LeadsOn}
 use Rattle.read_back.proofs.Operands.{same_le, rebase, lower, down, whole, bin_made, un_made, group_made, index_made, field_made, name_made, hidden_made, temporary_made, number_made, null_made, eof_made}
-use Rattle.read_back.proofs.EntriesKept.{doc_past, match_done, unmatched_done, field_done, init_done, check_done, point_done, number_point, no_fills, fills_past, fill_done, is_meant, new_word, same_kind}
+use Rattle.read_back.proofs.EntriesKept.{doc_past, match_done, unmatched_done, field_done, init_done, check_done, point_done, read_point, first_begun, more_begun, begun_past, one_parted, two_parted, three_parted, four_parted, added_is, number_point, no_fills, fills_past, fill_done, is_meant, new_word, same_kind}
 
 -- an operator of a level, by the kind of its sign
 operator_at : (q : Kind) (level : ℕ) (t : Token) → is_meant q ≡ false → binding (binary_of q) ≡ level → map_kind_of t.kind ≡ q → OperatorAt level t
@@ -150,27 +150,50 @@ does rule.MapArrows first behind state low (base, vs, depth, made, next) =
 does rule.MapArrows (later first) behind state low h = ends 11 (λ after low'. LeadsOn behind after low') state low h
 does rule.Entries first behind state low (vs, doc, next) = (vs, doc, λ after low' d. λ t is ok le few. (vs, doc_past t after d, next))
 does rule.Entries (later first) behind state low (vs, doc, next) = next state low doc
-does rule.Entry first behind state low (vs, doc, next) =
-    λ s any le few. λ o any' le' few'. λ a is ok le'' few''. (o, s, doc.mapping, vs, ap (λ w. value.Word o ∷ value.Word s ∷ w) doc.values, doc.kept, omega (arith, doc.flat), next)
+does rule.Entry first behind state low h = h
 does rule.Entry (later first) behind state low (vs, doc, next) =
+    λ p is ok le few. λ f any le' few'. λ after low' from at_from kept_from flat_from. λ a is' ok' le'' few''. (
+      omega (arith, doc.flat, flat_from),
+      λ last low'' x.
+          next _ _ (point_done p f from doc.mapping vs last doc.kept kept_from
+          (subst (λ w. Parted w last) (at_from ∙ ap (λ w. value.Pt from ∷ value.Word f ∷ value.Word p ∷ w) doc.values) x)),
+    )
+does rule.OtherEntry first behind state low (vs, doc, next) =
+    λ s any le few. λ o any' le' few'. λ a is ok le'' few''. (o, s, doc.mapping, vs, ap (λ w. value.Word o ∷ value.Word s ∷ w) doc.values, doc.kept, omega (arith, doc.flat), next)
+does rule.OtherEntry (later first) behind state low (vs, doc, next) =
     λ f is ok le few. λ a any le' few'. λ d is' ok' le'' few''. λ b any' le3 few3. λ q is4 ok4 le4 few4. (
       same_le _,
       omega arith,
       λ after low' m.
           next _ _ (field_done f a b _ after doc m (omega (arith, doc.flat))),
     )
-does rule.Entry (later (later first)) behind state low (vs, doc, next) =
+does rule.OtherEntry (later (later first)) behind state low (vs, doc, next) =
     λ f is ok le few. λ a any le' few'. λ q is4 ok4 le4 few4.
     (same_le _, omega arith, λ after low' m. next _ _ (init_done f a _ after doc m (omega (arith, doc.flat))))
-does rule.Entry (later (later (later first))) behind state low (vs, doc, next) =
-    λ p is ok le few. λ f any le' few'. λ after low' from at_from kept_from flat_from. λ a is' ok' le'' few''. λ after' low'' to at_to kept_to flat_to. (
-      omega (arith, doc.flat, flat_from, flat_to),
-      λ last low3 x.
-          next _ _ (point_done p f from to doc.mapping vs last doc.kept kept_from kept_to
-          (subst (λ w. Filled w last) (at_to ∙ ap (λ w. value.Pt to ∷ w) (at_from ∙ ap (λ w. value.Pt from ∷ value.Word f ∷ value.Word p ∷ w) doc.values)) x)),
-    )
-does rule.Entry (later (later (later (later first)))) behind state low (vs, doc, next) =
+does rule.OtherEntry (later (later (later first))) behind state low (vs, doc, next) =
     λ f is ok le few. (same_le _, omega arith, λ after low' m. next _ _ (check_done f _ after doc m (omega (arith, doc.flat))))
+does rule.Parts first behind state low (flat, next) =
+    λ after low' pt at kept flat_pt. (
+      omega (arith, flat, flat_pt),
+      λ last low'' x. (state.values, first_begun pt state.values last kept at x, next),
+    )
+does rule.SecondPart first behind state low (vs, b, next) =
+    λ t is ok le few. (omega (arith, b.flat), λ after low' p at form kept flat. (p, vs, more_begun p [] vs _ after (begun_past t state b) at form kept flat, next))
+does rule.SecondPart (later first) behind state low (vs, b, next) = next _ _ (one_parted vs state b)
+does rule.ThirdPart first behind state low (p, vs, b, next) =
+    λ t is ok le few. (omega (arith, b.flat), λ after low' q at form kept flat. (p, q, vs, more_begun q (p ∷ []) vs _ after (begun_past t state b) at form kept flat, next))
+does rule.ThirdPart (later first) behind state low (p, vs, b, next) = next _ _ (two_parted p vs state b)
+does rule.FourthPart first behind state low (p, q, vs, b, next) =
+    λ t is ok le few. (
+      omega (arith, b.flat),
+      λ after low' r at form kept flat. next _ _ (four_parted p q r vs after (more_begun r (q ∷ p ∷ []) vs _ after (begun_past t state b) at form kept flat)),
+    )
+does rule.FourthPart (later first) behind state low (p, q, vs, b, next) = next _ _ (three_parted p q vs state b)
+does rule.AddedPart first behind state low (flat, next) =
+    λ f any le few. λ after low' pt at kept flat_pt. (
+      omega (arith, flat, flat_pt),
+      λ last low'' x. next _ _ _ (added_is f pt state.values last at x) (refl, read_point pt kept) (kept, x.kept) (omega (arith, x.flat)),
+    )
 does rule.Target first behind state low (o, s, m, vs, e, kept, flat, next) = λ t new le few. next _ _ (match_done t o s m vs state e kept flat new)
 does rule.Target (later first) behind state low (o, s, m, vs, e, kept, flat, next) = λ t is ok le few. next _ _ (unmatched_done t o s m vs state e kept flat)
 does rule.Pt first behind state low next = λ t is ok le few. next _ _ _ refl refl (omega arith)
@@ -230,7 +253,13 @@ does rule.MapUnary (later (later (later (later (later m))))) behind state low h 
 does rule.MapName (later (later (later m))) behind state low h = absurd (nothing m)
 does rule.MapArrows (later (later m)) behind state low h = absurd (nothing m)
 does rule.Entries (later (later m)) behind state low h = absurd (nothing m)
-does rule.Entry (later (later (later (later (later m))))) behind state low h = absurd (nothing m)
+does rule.Entry (later (later m)) behind state low h = absurd (nothing m)
+does rule.OtherEntry (later (later (later (later m)))) behind state low h = absurd (nothing m)
+does rule.Parts (later m) behind state low h = absurd (nothing m)
+does rule.SecondPart (later (later m)) behind state low h = absurd (nothing m)
+does rule.ThirdPart (later (later m)) behind state low h = absurd (nothing m)
+does rule.FourthPart (later (later m)) behind state low h = absurd (nothing m)
+does rule.AddedPart (later m) behind state low h = absurd (nothing m)
 does rule.Target (later (later m)) behind state low h = absurd (nothing m)
 does rule.Pt (later (later m)) behind state low h = absurd (nothing m)
 does rule.Fills (later (later m)) behind state low h = absurd (nothing m)

@@ -206,6 +206,17 @@ spaced_equal rest at = record {
   so = λ vs. refl;
 }
 
+pub spaced_plus : (rest : List ℕ) (at : ℕ) → Part (Take kind.Plus Skip ∷ []) Stays (codes " + ") rest at
+unfolding signs
+spaced_plus rest at = record {
+  tokens = token_at (token.Punct 0) (at + 1) 1 ∷ [];
+  does = λ vs. vs;
+  found = both_give (32 ∷ []) (43 ∷ 32 ∷ []) rest at [] (token_at (token.Punct 0) (at + 1) 1 ∷ []) (blank_gives (43 ∷ 32 ∷ rest) at)
+      (both_give (43 ∷ []) (32 ∷ []) rest (at + 1) (token_at (token.Punct 0) (at + 1) 1 ∷ []) [] (token_gives 43 [] (32 ∷ rest) (at + 1) (token.Punct 0) refl) (blank_gives rest (at + 1 + 1)));
+  moves = skipped_token kind.Plus (token_at (token.Punct 0) (at + 1) 1) refl (λ f. cc) refl;
+  so = λ vs. refl;
+}
+
 pub a_blank : (rest : List ℕ) (at : ℕ) → Part [] Stays (32 ∷ []) rest at
 a_blank rest at = record {
   tokens = [];

@@ -163,3 +163,12 @@ slot_of_number xs name i e = at xs i ∙ name_of_number (slot_names xs) name i e
     at [] i = refl
     at (x ∷ xs) zero = refl
     at (x ∷ xs) (suc i) = at xs i
+
+-- A function that is found by its name has the name.
+pub function_named : (p : Lifted) (name : List ℕ) (f : ℕ) → find_name name (names_in p 0) ≡ Some f → (function_of p f).name ≡ name
+function_named p name f e = at p.functions f ∙ name_of_number (names_in p 0) name f e
+  where
+    at : (fs : List LFunction) (f : ℕ) → (slice_index_or fs f (function_of (record p { functions = [] }) 0)).name ≡ slice_index_or (map (λ x. x.name) fs) f []
+    at [] f = refl
+    at (x ∷ fs) zero = refl
+    at (x ∷ fs) (suc f) = at fs f

@@ -11,6 +11,8 @@ use Rattle.c_tree.specs.declared.mapping.Pt.{Pt}
 use Rattle.c_tree.specs.declared.mapping.Entry.{Entry}
 use Rattle.c_tree.specs.declared.mapping.Entry.TheVariants as n
 use Rattle.c_tree.specs.declared.mapping.Mapping.{Mapping}
+use Rattle.c_tree.specs.declared.mapping.Part.{Part}
+use Rattle.c_tree.specs.MapForm.{AreReadParts}
 use Rattle.c_tree.specs.Operators.{binding}
 use Rattle.c_grammar.specs.declared.kind.Kind.TheVariants as kind
 use Rattle.c_grammar.specs.Tokens.{map_word_kind}
@@ -46,17 +48,21 @@ IsKeptNumber k i = i ≤ 2147483647
 abbrev pub IsKeptPoint : Pt → Type 0
 IsKeptPoint pt = IsKeptNumber pt.kind pt.number
 
+-- The place of a part and what fills its slots keep the limits.
+abbrev pub IsKeptPart : Part → Type 0
+IsKeptPart p = IsKeptPoint p.point × All (λ x. IsKeptExpr x.expr) p.fills
+
 -- A new side of a match is not the word `none`.
 abbrev pub IsKeptSide : Option (List ℕ) → Type 0
 IsKeptSide None = ⊤
 IsKeptSide (Some new) = map_word_kind new ≢ kind.NoneWord
 
--- A match is of one of the four kinds, and all parts of an entry keep the limits.
+-- A match is of one of the four kinds, a point has one to four parts, and all that stands in an entry keeps the limits.
 abbrev pub IsKeptEntry : Entry → Type 0
 IsKeptEntry (n.Match i old new) = IsTrue (nat_lt i 4) × IsKeptSide new
 IsKeptEntry (n.Field owner f x) = IsKeptExpr x
 IsKeptEntry (n.Init g x) = IsKeptExpr x
-IsKeptEntry (n.Point f from to fills) = IsKeptPoint from × IsKeptPoint to × All (λ x. IsKeptExpr x.expr) fills
+IsKeptEntry (n.Point f from parts) = IsKeptPoint from × AreReadParts parts × All IsKeptPart parts
 IsKeptEntry (n.Check x) = IsKeptExpr x
 
 abbrev pub IsKept : Mapping → Type 0

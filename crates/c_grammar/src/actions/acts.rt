@@ -4,7 +4,7 @@ ghost use Rattle.std.specs.Prelude.{◌≡◌, reverse, OnOk};
 ghost use Rattle.c_grammar.specs.Effects.{value_effect};
 
 use crate::action::Action;
-use crate::actions::{call, constant, decl, entry, expr, fill, item, simple, stmt};
+use crate::actions::{call, constant, decl, entry, expr, fill, item, part, simple, stmt};
 use crate::value::Value;
 use std::alloc::{AllocError, Global};
 
@@ -96,6 +96,11 @@ pub fn act(alloc: Global, action: Action, values: &mut Vec<Value>) -> Result<(),
         Action::NumberPt => fill::numbered_point(values),
         Action::NoFills => fill::no_fills(alloc, values),
         Action::MoreFill => fill::more_fills(alloc, values),
+        Action::OnePart => part::one_part(alloc, values),
+        Action::TwoParts => part::two_parts(alloc, values),
+        Action::ThreeParts => part::three_parts(alloc, values),
+        Action::FourParts => part::four_parts(alloc, values),
+        Action::AddPart => part::added_part(alloc, values),
         Action::HiddenName => fill::hidden_name(alloc, values),
         Action::TempName => fill::temporary_name(alloc, values),
     }

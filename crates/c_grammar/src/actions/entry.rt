@@ -7,7 +7,7 @@ ghost use Rattle.c_grammar.specs.declared.action.Action.TheVariants as action;
 ghost use Rattle.c_grammar.specs.declared.value.Value.TheVariants as value;
 
 use crate::actions::pop::{
-    no_mapping, pop_fills, pop_mapping, pop_name, pop_operand, pop_pt, pop_word, push_value,
+    no_mapping, pop_mapping, pop_name, pop_operand, pop_parts, pop_pt, pop_word, push_value,
 };
 use crate::actions::sign::side_of;
 use crate::token::map_kind_of;
@@ -74,21 +74,15 @@ pub fn init(alloc: Global, values: &mut Vec<Value>) -> Result<(), AllocError>
     push_entry(alloc, values, word.at, Entry::Init(global, expr))
 }
 
-/// An old point and a new one, with what the new slots are filled with.
+/// An old point, and the parts that a frame there becomes.
 pub fn point(alloc: Global, values: &mut Vec<Value>) -> Result<(), AllocError>
     ensures { OnOk result (Does action.PointEntry values.old.items values.new.items) }
 {
-    let fills = pop_fills(alloc, values);
-    let new = pop_pt(values);
+    let parts = pop_parts(alloc, values);
     let old = pop_pt(values);
     let function = pop_name(alloc, values).it;
     let word = pop_word(values);
-    push_entry(
-        alloc,
-        values,
-        word.at,
-        Entry::Point(function, old, new, fills),
-    )
+    push_entry(alloc, values, word.at, Entry::Point(function, old, parts))
 }
 
 /// A condition of the update, which is made only where the expression is not 0.

@@ -9,7 +9,7 @@ ghost use Rattle.c_grammar.specs.Values as spec;
 use crate::token::text_of;
 use crate::value::{Operand, Value};
 use c_tree::{
-    At, Boxed, Const, Count, Define, Expr, ExprKind, Field, Fill, Mapping, Name, PlaceKind,
+    At, Boxed, Const, Count, Define, Expr, ExprKind, Field, Fill, Mapping, Name, Part, PlaceKind,
     Program, Pt, Row, Stmt, StmtKind, Text, Token, TokenKind, Ty,
 };
 use std::alloc::{AllocError, Global};
@@ -295,6 +295,41 @@ pub fn pop_fills(alloc: Global, values: &mut Vec<Value>) -> Row<Fill>
 {
     match values.pop() {
         Some(Value::Fills(fills)) => fills,
+        other => {
+            discard(other);
+            Row::from_vec(Vec::new(alloc))
+        }
+    }
+}
+
+/// Takes an added part of a point.
+pub fn pop_part(alloc: Global, values: &mut Vec<Value>) -> Part
+    ensures value { result ≡ spec.part_in (reverse values.old.items) }
+    ensures rest { reverse values.new.items ≡ spec.older (reverse values.old.items) }
+{
+    match values.pop() {
+        Some(Value::Part(part)) => part,
+        other => {
+            discard(other);
+            Part {
+                function: Some(Name::from_vec(Vec::new(alloc))),
+                point: Pt {
+                    kind: PlaceKind::Entry,
+                    number: 1,
+                },
+                fills: Row::from_vec(Vec::new(alloc)),
+            }
+        }
+    }
+}
+
+/// Takes the parts of a point.
+pub fn pop_parts(alloc: Global, values: &mut Vec<Value>) -> Row<Part>
+    ensures value { result ≡ spec.parts_in (reverse values.old.items) }
+    ensures rest { reverse values.new.items ≡ spec.older (reverse values.old.items) }
+{
+    match values.pop() {
+        Some(Value::Parts(parts)) => parts,
         other => {
             discard(other);
             Row::from_vec(Vec::new(alloc))
