@@ -1,0 +1,2 @@
+-- of names
+pub mod SlotLemmas

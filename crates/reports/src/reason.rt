@@ -1,6 +1,6 @@
 //! The words of a reason.
 
-ghost use Rattle.std.specs.Prelude.{◌≡◌, ◌++◌, OnOk, IfOk};
+ghost use Rattle.std.specs.Prelude.{◌≡◌, ◌++◌, [], OnOk, IfOk};
 ghost use Rattle.c_places.specs.Limit.{KeepsLimit};
 ghost use Rattle.std.specs.Fmt.{decimal};
 ghost use Rattle.std.specs.Prelude.{codes};
@@ -10,7 +10,7 @@ ghost use Rattle.reports.specs.Words as spec;
 
 use crate::named::{append_field, append_place, append_slot};
 use crate::words::{append_counted, append_frame, append_trap, check_word};
-use c_tree::{Lifted, Patch, Reason, Text};
+use c_tree::{LEntry, Lifted, Patch, Reason, Text};
 use map_text::name_at;
 use patch_match::Link;
 use std::alloc::{AllocError, Global};
@@ -33,7 +33,7 @@ fn append_unmapped(
 }
 
 fn append_held(link: &Link<'_>, mutex: u32, out: &mut Vec<u8>) -> Result<(), AllocError>
-    ensures { OnOk result (out.new.items ≡ out.old.items ++ spec.reason link.now (0, 0)
+    ensures { OnOk result (out.new.items ≡ out.old.items ++ spec.reason link.now [] (0, 0)
         (why.Held mutex)) }
 {
     out.extend_from_slice(b"mutex ")?;
@@ -66,7 +66,7 @@ fn append_global(
     code: u32,
     out: &mut Vec<u8>,
 ) -> Result<(), AllocError>
-    ensures { OnOk result (out.new.items ≡ out.old.items ++ spec.reason link.now (0, 0)
+    ensures { OnOk result (out.new.items ≡ out.old.items ++ spec.reason link.now [] (0, 0)
         (why.Global global code)) }
 {
     out.extend_from_slice(b"global ")?;
@@ -82,7 +82,7 @@ fn append_field_reason(
     code: u32,
     out: &mut Vec<u8>,
 ) -> Result<(), AllocError>
-    ensures { OnOk result (out.new.items ≡ out.old.items ++ spec.reason link.now (owner, 0)
+    ensures { OnOk result (out.new.items ≡ out.old.items ++ spec.reason link.now [] (owner, 0)
         (why.Field object field code)) }
 {
     append_counted(b"field ", object, out)?;
@@ -93,19 +93,20 @@ fn append_field_reason(
 
 fn append_slot_reason(
     link: &Link<'_>,
-    function: u32,
+    entries: &[LEntry],
+    at: (u32, u32),
     frame: (u32, u32),
     slot: u32,
     code: u32,
     out: &mut Vec<u8>,
 ) -> Result<(), AllocError>
-    ensures { OnOk result (out.new.items ≡ out.old.items ++ spec.reason link.now (function, 0)
+    ensures { OnOk result (out.new.items ≡ out.old.items ++ spec.reason link.now entries.now at
         (why.Slot frame.0 frame.1 slot code)) }
 {
     out.extend_from_slice(b"slot ")?;
     append_frame(frame.0, frame.1, out)?;
     out.extend_from_slice(b" ")?;
-    append_slot(link, function, slot, out)?;
+    append_slot(link, entries, at, slot, out)?;
     append_trap(code, out)
 }
 
@@ -122,12 +123,13 @@ fn append_deep(thread: u32, out: &mut Vec<u8>) -> Result<(), AllocError>
 fn append_reason(
     alloc: Global,
     link: &Link<'_>,
+    entries: &[LEntry],
     at: (u32, u32),
     reason: Reason,
     out: &mut Vec<u8>,
 ) -> Result<(), AllocError>
     requires { KeepsLimit link.now.old }
-    ensures { OnOk result (out.new.items ≡ out.old.items ++ spec.reason link.now at reason) }
+    ensures { OnOk result (out.new.items ≡ out.old.items ++ spec.reason link.now entries.now at reason) }
 {
     match reason {
         Reason::Unmapped(thread, frame) => {
@@ -141,7 +143,7 @@ fn append_reason(
             append_field_reason(link, at.0, object, field, code, out)
         }
         Reason::Slot(thread, frame, slot, code) => {
-            append_slot_reason(link, at.0, (thread, frame), slot, code, out)
+            append_slot_reason(link, entries, at, (thread, frame), slot, code, out)
         }
         Reason::Memory => out.extend_from_slice(b"memory"),
         Reason::Depth(thread) => append_deep(thread, out),
@@ -152,21 +154,23 @@ fn append_reason(
 fn linked_words(
     alloc: Global,
     link: &Link<'_>,
+    entries: &[LEntry],
     at: (u32, u32),
     reason: Reason,
 ) -> Result<Text, AllocError>
     requires { KeepsLimit link.now.old }
-    ensures { IfOk result (λ words. words ≡ spec.reason link.now at reason) }
+    ensures { IfOk result (λ words. words ≡ spec.reason link.now entries.now at reason) }
 {
     let mut out = Vec::new(alloc);
-    append_reason(alloc, link, at, reason, &mut out)?;
+    append_reason(alloc, link, entries, at, reason, &mut out)?;
     Ok(Text::from_vec(out))
 }
 
 /// The words of a reason for which an update by a patch was refused.
 ///
 /// `at` tells of what the reason names in the old state: of a frame its function and its place, of
-/// an object its struct and 0. Of other reasons it isn't read.
+/// an object its struct and 0. Of other reasons it isn't read. The slot of a reason is counted
+/// through all parts that the frame becomes, from 0.
 pub fn reason_words(
     alloc: Global,
     patch: &Patch,
@@ -175,10 +179,11 @@ pub fn reason_words(
 ) -> Result<Text, AllocError>
     requires { KeepsLimit patch.now.old }
     ensures { IfOk result (λ words. words ≡
-        spec.reason (link_of patch.now.old patch.now.new patch.now.entries) at reason) }
+        spec.reason (link_of patch.now.old patch.now.new patch.now.entries) patch.now.entries at
+        reason) }
 {
     match Link::by_numbers(alloc, &patch.old, &patch.new, patch.entries.as_slice()) {
-        Ok(link) => linked_words(alloc, &link, at, reason),
+        Ok(link) => linked_words(alloc, &link, patch.entries.as_slice(), at, reason),
         Err(e) => Err(e),
     }
 }

@@ -9,5 +9,7 @@ pub mod CarryLemmas
 -- of frames
 pub mod KeptLemmas
 pub mod LinkLemmas
+pub mod PartLemmas
+pub mod DepthLemmas
 pub mod FrameLemmas
 pub mod FillingsFrom

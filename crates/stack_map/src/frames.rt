@@ -20,7 +20,10 @@ use std::alloc::{AllocError, Global};
 fn next_slot(first: u32, part: &Part) -> Result<u32, AllocError>
     ensures { IfOk result (λ n. n ≡ first + length part.now.fillings) }
 {
-    narrowed(first as usize + part.fillings.len())
+    match first.checked_add(narrowed(part.fillings.len())?) {
+        Some(next) => Ok(next),
+        None => Err(AllocError),
+    }
 }
 
 fn put(made: &mut Vec<Frame>, frame: Frame) -> Result<(), AllocError>

@@ -22,7 +22,7 @@ fn check_of(entry: &LEntry) -> Option<&LExpr>
         LEntry::Match(_, _, _) => None,
         LEntry::Field(_, _, _) => None,
         LEntry::Init(_, _) => None,
-        LEntry::Point(_, _, _, _) => None,
+        LEntry::Point(_, _, _) => None,
     }
 }
 

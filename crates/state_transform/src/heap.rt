@@ -82,6 +82,7 @@ fn map_to(
     match filled(
         alloc,
         map.fillings.as_slice(),
+        0,
         &[],
         object.fields.as_slice(),
         state,

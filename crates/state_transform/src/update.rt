@@ -18,17 +18,23 @@ use crate::mutexes::{held, new_owners};
 use crate::parts::Parts;
 use c_tree::{Heap, LEntry, Object, Patch, Places, Reason, Row, State};
 use patch_match::{Link, origins_of};
-use stack_map::{Declared, FrameMap, MapEnd, declared, map_threads, unchanged_functions, unmapped};
+use stack_map::{
+    Declared, FrameMap, MapEnd, declared, deep, map_threads, unchanged_functions, unmapped,
+};
 use std::alloc::{AllocError, Global};
 
-/// What is refused before any new value is computed: a frame without a map, then a held mutex and
-/// an object without a match, then a check.
+/// What is refused before any new value is computed: a frame without a map, then a stack that is too
+/// deep, then a held mutex and an object without a match, then a check.
 fn refusal(m: &FrameMap<'_, '_>, state: &State) -> Result<Option<Reason>, AllocError>
     ensures { IfOk result (λ r. r ≡ spec.refusal m.now.link.now m.now.entries.now state.now) }
 {
     let frame = unmapped(m, state.threads.as_slice())?;
     if frame.is_some() {
         return Ok(frame);
+    }
+    let stack = deep(m, state.threads.as_slice())?;
+    if stack.is_some() {
+        return Ok(stack);
     }
     let mutex = held(m.link, state.mutexes.as_slice())?;
     if mutex.is_some() {

@@ -1,5 +1,5 @@
 -- An update names a reason against it that is never want of memory.
-use Rattle.std.proofs.Common.{◌≡◌, ◌≢◌, ℕ, ◌+◌, ℤ, Bool, true, false, ◌&&◌, List, [], ◌∷◌, map, length, Option, Some, None, Result, Ok, Err, refl, ap, subst}
+use Rattle.std.proofs.Common.{◌≡◌, ◌≢◌, ℕ, ◌+◌, nat_lt, ℤ, Bool, true, false, ◌&&◌, List, [], ◌∷◌, map, length, Option, Some, None, Result, Ok, Err, refl, ap, subst}
 use Rattle.std.specs.Prelude.{is_none, is_some, if◌then◌else◌}
 use Rattle.c_tree.specs.declared.event.EventKind.TheVariants as e
 use Rattle.c_tree.specs.declared.event.Reason.{Reason}
@@ -14,15 +14,16 @@ use Rattle.c_tree.specs.declared.state.Object.{Object}
 use Rattle.c_tree.specs.declared.state.State.{State}
 use Rattle.c_tree.specs.declared.state.Trap.{Trap}
 use Rattle.c_tree.specs.Fillings.{code, filled, with_reason}
+use Rattle.c_tree.specs.Limits.{max_frames}
 use Rattle.c_tree.specs.Link.{Link, link_of, match_at}
 use Rattle.c_tree.specs.MapGlobals.{global_filling, global_view, init_of, map_global, map_global_by, map_globals_from}
 use Rattle.c_tree.specs.MapHeap.{field_fillings, is_removed, map_object, map_object_to, map_objects, object_view, removed}
 use Rattle.c_tree.specs.MapMutexes.{held}
 use Rattle.c_tree.specs.Step.{view_of}
-use Rattle.c_tree.specs.MapStack.{Part, frames_by, map_frame, map_frames, part_frames, parts_at, unmapped}
+use Rattle.c_tree.specs.MapStack.{Part, frames_by, map_frame, map_frames, new_depth, part_frames, parts_at, unmapped}
 use Rattle.c_tree.specs.Refusal.{first_some, onward, unless_refused}
 use Rattle.c_tree.specs.Run.{is_memory}
-use Rattle.c_tree.specs.Update.{all_unmapped, failed_check, failed_checks, map_thread, map_threads, mapped_state, refusal, thread_unmapped, update}
+use Rattle.c_tree.specs.Update.{all_deep, all_unmapped, failed_check, failed_checks, map_thread, map_threads, mapped_state, refusal, thread_deep, thread_unmapped, update}
 use Rattle.c_tree.specs.Value.{View, is_true, value}
 
 -- no answer is want of memory
@@ -79,6 +80,14 @@ all_unmapped-names : (k : Link) (entries : List LEntry) (t : ℕ) (os : List (Op
 all_unmapped-names k entries t [] = tt
 all_unmapped-names k entries t (o ∷ rest) = (thread_unmapped-names k entries t o, all_unmapped-names k entries (t + 1) rest)
 
+thread_deep-names : (k : Link) (entries : List LEntry) (t : ℕ) (o : Option (List Frame)) → NamesIn (thread_deep k entries t o)
+thread_deep-names k entries t None = tt
+thread_deep-names k entries t (Some frames) = if-names (nat_lt max_frames (new_depth k entries frames)) (Some (why.Depth t)) None refl tt
+
+all_deep-names : (k : Link) (entries : List LEntry) (t : ℕ) (os : List (Option (List Frame))) → AllIn (all_deep k entries t os)
+all_deep-names k entries t [] = tt
+all_deep-names k entries t (o ∷ rest) = (thread_deep-names k entries t o, all_deep-names k entries (t + 1) rest)
+
 held-names : (k : Link) (m : ℕ) (os : List (Option ℕ)) → NamesIn (held k m os)
 held-names k m [] = tt
 held-names k m (o ∷ rest) = if-names (is_some o && is_none (match_at k.mutexes m)) (Some (why.Held m)) (held k (m + 1) rest) refl (held-names k (m + 1) rest)
@@ -97,13 +106,23 @@ checks-names s i (n.Check x ∷ rest) = (failed-names i (value (global_view s) x
 checks-names s i (n.Match a b c ∷ rest) = checks-names s i rest
 checks-names s i (n.Field a b c ∷ rest) = checks-names s i rest
 checks-names s i (n.Init a b ∷ rest) = checks-names s i rest
-checks-names s i (n.Point a b c d ∷ rest) = checks-names s i rest
+checks-names s i (n.Point a b c ∷ rest) = checks-names s i rest
 
 refusal-names : (k : Link) (entries : List LEntry) (s : State) → NamesIn (refusal k entries s)
 refusal-names k entries s =
-    first-names (first_some (all_unmapped k entries 0 s.threads) ∷ held k 0 s.mutexes ∷ removed k 1 s.heap.objects ∷ first_some (failed_checks s 1 entries) ∷ []) (
+    first-names (
+      first_some (all_unmapped k entries 0 s.threads)
+      ∷ first_some (all_deep k entries 0 s.threads)
+      ∷ held k 0 s.mutexes
+      ∷ removed k 1 s.heap.objects
+      ∷ first_some (failed_checks s 1 entries)
+      ∷ []
+    ) (
       first-names (all_unmapped k entries 0 s.threads) (all_unmapped-names k entries 0 s.threads),
-      (held-names k 0 s.mutexes, (removed-names k 1 s.heap.objects, (first-names (failed_checks s 1 entries) (checks-names s 1 entries), tt))),
+      (
+        first-names (all_deep k entries 0 s.threads) (all_deep-names k entries 0 s.threads),
+        (held-names k 0 s.mutexes, (removed-names k 1 s.heap.objects, (first-names (failed_checks s 1 entries) (checks-names s 1 entries), tt))),
+      ),
     )
 
 -- what is computed

@@ -8,5 +8,5 @@ use Rattle.stack_map.proofs.frames.add_parts.Given as goal
 
 abbrev pub invariant-loop-part : goal.invariant-loop-part
 invariant-loop-part l =
-    after l.fn.made (spec.part_frames (view_of l.state l.frame) (because l.whose) 0 (map moved.part l.parts))
+    after l.fn.made.items (spec.part_frames (view_of l.state l.frame) (because l.whose) 0 (map moved.part l.parts))
     ≡ after l.made.items (spec.part_frames (view_of l.state l.frame) (because l.whose) l.first (map moved.part (drop l.part-index l.parts)))
