@@ -13,7 +13,7 @@ use Rattle.world_core.specs.declared.outcome.Outcome.TheVariants as o
 -- the words of a reason against the armed patch
 abbrev pub refusal_words : Option Armed → ℕ × ℕ → Reason → List ℕ
 refusal_words None at r = []
-refusal_words (Some a) at r = reason (link_of a.patch.old a.patch.new a.patch.entries) at r
+refusal_words (Some a) at r = reason (link_of a.patch.old a.patch.new a.patch.entries) a.patch.entries at r
 
 -- the words of an outcome
 abbrev pub outcome_words : Option Armed → ℕ × ℕ → Outcome → List ℕ

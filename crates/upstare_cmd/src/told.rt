@@ -56,8 +56,8 @@ fn refused_words(
 ) -> Result<Text, AllocError>
     requires { KeepsLimit patch.now.old }
     ensures { IfOk result (λ words. words ≡
-        codes "refused: " ++ words_of (link_of patch.now.old patch.now.new patch.now.entries) at
-        reason) }
+        codes "refused: " ++ words_of (link_of patch.now.old patch.now.new patch.now.entries)
+        patch.now.entries at reason) }
 {
     let mut words = text_of(alloc, b"refused: ")?;
     let reason = reason_words(alloc, patch, at, reason)?;
