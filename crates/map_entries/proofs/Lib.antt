@@ -6,4 +6,5 @@ pub mod NumberLemmas
 pub mod SuitLemmas
 pub mod TwiceLemmas
 pub mod PartLemmas
+mod PointOfLemmas
 mod AloneLemmas

@@ -4,7 +4,7 @@ use Rattle.std.specs.Prelude.{◌||◌, slice_get}
 use Rattle.std.specs.Option.{option_map}
 use Rattle.std.specs.List.{zip}
 use Rattle.std.proofs.lemmas.Option.{none-some, same_Some}
-use Rattle.std.proofs.lemmas.List.{drop_more, nil_from_length}
+use Rattle.std.proofs.lemmas.List.{drop_more, nil_from_length, length-map, get_or-map}
 use Rattle.std.proofs.lemmas.Slice.Zip.{length-zip}
 use Rattle.c_tree.specs.Suits.{some_neighbours, last_is}
 use Rattle.c_tree.specs.Entries.{both, all_there}
@@ -58,6 +58,24 @@ module _ {A B C : Type 0} (go : B × A → Option C) (ys : List B) (xs : List A)
       append_nil [] = refl
       append_nil (x ∷ xs) = ap (λ z. x ∷ z) (append_nil xs)
 
+-- beside what is seen of a list
+module _ {A B C D : Type 0} (f : D → B) (go : B × A → Option C) (zs : List D) (xs : List A) (made : List C) (i : ℕ) where
+  module _ (d : D) (x : A) (in_zs : i < length zs) (in_xs : i < length xs) (x_is : x ≡ get_or xs i x) (so : SoFar go (map f zs) xs made i) where
+    in_seen : i < length (map f zs)
+    in_seen = omega (arith, in_zs, length-map zs f)
+
+    seen_at : f (get_or zs i d) ≡ get_or (map f zs) i (f (get_or zs i d))
+    seen_at = sym (get_or-map f zs i d (f (get_or zs i d)) in_zs)
+
+    pub one_more_seen : (z : C) → go (f (get_or zs i d), x) ≡ Some z → SoFar go (map f zs) xs (made ++ z ∷ []) (i + 1)
+    one_more_seen z e = one_more go (map f zs) xs made i (f (get_or zs i d)) x in_seen in_xs seen_at x_is so z e
+
+    pub one_lacks_seen : go (f (get_or zs i d), x) ≡ None → None ≡ all_there (map go (zip (map f zs) xs))
+    one_lacks_seen e = sym (one_lacks go (map f zs) xs made i (f (get_or zs i d)) x in_seen in_xs seen_at x_is so e)
+
+  pub all_made_seen : min (length zs) (length xs) ≤ i → SoFar go (map f zs) xs made i → all_there (map go (zip (map f zs) xs)) ≡ Some made
+  all_made_seen l so = all_made go (map f zs) xs made i (omega (arith, l, length-map zs f)) so
+
 -- neighbours among what is seen of a list
 neighbours_seen : {A B : Type 0} (f : A → B) (t : B → B → Bool) (xs : List A) → some_neighbours t (map f xs) ≡ some_neighbours (λ x y. t (f x) (f y)) xs
 neighbours_seen f t [] = refl
@@ -77,22 +95,23 @@ module _ {A B : Type 0} (f : A → B) (t : B → B → Bool) (xs : List A) where
   pub left_first : LeftFrom 1
   left_first = neighbours_seen f t xs
 
-  two_left : (i : ℕ) (x y : A) → 1 ≤ i → i < length xs → x ≡ get_or xs (i - 1) x → y ≡ get_or xs i y → drop (i - 1) xs ≡ x ∷ y ∷ drop (i + 1) xs
-  two_left i x y l m is are =
+  -- two places beside each other
+  two_left : (i : ℕ) (d : A) → 1 ≤ i → i < length xs → drop (i - 1) xs ≡ get_or xs (i - 1) d ∷ get_or xs i d ∷ drop (i + 1) xs
+  two_left i d l m =
       let before : i - 1 + 1 ≡ i = omega (arith, l) in
-      left_more xs (i - 1) x (omega (arith, l, m)) is
-      ∙ (ap (λ n. x ∷ drop n xs) before ∙ ap (λ z. x ∷ z) (left_more xs i y m are))
+      drop_more xs (i - 1) d (omega (arith, l, m))
+      ∙ (ap (λ n. get_or xs (i - 1) d ∷ drop n xs) before ∙ ap (λ z. get_or xs (i - 1) d ∷ z) (drop_more xs i d m))
 
-  pub left_more_of : (i : ℕ) (x y : A) → 1 ≤ i → i < length xs → x ≡ get_or xs (i - 1) x → y ≡ get_or xs i y → t (f x) (f y) ≡ false → LeftFrom i → LeftFrom (i + 1)
-  left_more_of i x y l m is are e so =
+  pub left_on : (i : ℕ) (d : A) → 1 ≤ i → i < length xs → t (f (get_or xs (i - 1) d)) (f (get_or xs i d)) ≡ false → LeftFrom i → LeftFrom (i + 1)
+  left_on i d l m e so =
       let back : i + 1 - 1 ≡ i = omega arith in
-      so ∙ (ap (some_neighbours (λ x y. t (f x) (f y))) (two_left i x y l m is are)
-      ∙ (ap (λ b. b || some_neighbours (λ x y. t (f x) (f y)) (y ∷ drop (i + 1) xs)) e
-      ∙ ap (some_neighbours (λ x y. t (f x) (f y))) (sym (left_more xs i y m are) ∙ ap (λ n. drop n xs) (sym back))))
+      so ∙ (ap (some_neighbours (λ x y. t (f x) (f y))) (two_left i d l m)
+      ∙ (ap (λ b. b || some_neighbours (λ x y. t (f x) (f y)) (get_or xs i d ∷ drop (i + 1) xs)) e
+      ∙ ap (some_neighbours (λ x y. t (f x) (f y))) (sym (drop_more xs i d m) ∙ ap (λ n. drop n xs) (sym back))))
 
-  pub left_found : (i : ℕ) (x y : A) → 1 ≤ i → i < length xs → x ≡ get_or xs (i - 1) x → y ≡ get_or xs i y → t (f x) (f y) ≡ true → LeftFrom i → true ≡ some_neighbours t (map f xs)
-  left_found i x y l m is are e so =
-      sym (so ∙ (ap (some_neighbours (λ x y. t (f x) (f y))) (two_left i x y l m is are) ∙ ap (λ b. b || some_neighbours (λ x y. t (f x) (f y)) (y ∷ drop (i + 1) xs)) e))
+  pub left_found : (i : ℕ) (d : A) → 1 ≤ i → i < length xs → t (f (get_or xs (i - 1) d)) (f (get_or xs i d)) ≡ true → LeftFrom i → true ≡ some_neighbours t (map f xs)
+  left_found i d l m e so =
+      sym (so ∙ (ap (some_neighbours (λ x y. t (f x) (f y))) (two_left i d l m) ∙ ap (λ b. b || some_neighbours (λ x y. t (f x) (f y)) (get_or xs i d ∷ drop (i + 1) xs)) e))
 
   pub left_none : (i : ℕ) → length xs ≤ i → LeftFrom i → false ≡ some_neighbours t (map f xs)
   left_none i l so = sym (so ∙ short (drop (i - 1) xs) (omega (arith, l, length-drop (i - 1) xs))) where
