@@ -1,17 +1,15 @@
 -- The new frames of an old one.
-use Rattle.std.proofs.Common.{◌≡◌, ℕ, ◌+◌, List, [], ◌∷◌, ◌++◌, map, Some, refl, sym, ◌∙◌, ap, append_assoc, length}
-use Rattle.std.specs.Prelude.{ℤ, Result, Ok, Err}
+use Rattle.std.proofs.Common.{◌≡◌, ℕ, List, ◌++◌, map, Some, refl, sym, ◌∙◌, ap, append_assoc}
+use Rattle.std.specs.Prelude.{Result, Ok, Err}
 use Rattle.c_tree.specs.declared.event.Reason.{Reason}
 use Rattle.c_tree.specs.declared.event.Reason.TheVariants as why
 use Rattle.c_tree.specs.declared.mapping.LEntry.{LEntry}
 use Rattle.c_tree.specs.declared.state.Frame.{Frame}
 use Rattle.c_tree.specs.declared.state.State.{State}
-use Rattle.c_tree.specs.Fillings.{filled}
 use Rattle.c_tree.specs.Link.{Link}
-use Rattle.c_tree.specs.MapStack.{Part, frames_by, map_frame, part_frames, parts_at}
+use Rattle.c_tree.specs.MapStack.{frames_by, map_frame, part_frames, parts_at}
 use Rattle.c_tree.specs.Refusal.{onward}
 use Rattle.c_tree.specs.Step.{view_of}
-use Rattle.c_tree.specs.Value.{View}
 use Rattle.stack_map.specs.declared.known.Known.{Known}
 use Rattle.stack_map.specs.declared.parts.Part as code
 use Rattle.stack_map.specs.Added.{after}

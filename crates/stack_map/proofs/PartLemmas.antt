@@ -2,13 +2,13 @@
 use Rattle.std.proofs.Common.{◌≡◌, ℕ, suc, List, [], ◌∷◌, Option, Some, None, refl, ◌∙◌, ap, length}
 use Rattle.std.specs.Prelude.{find}
 use Rattle.std.specs.Option.{option_or}
-use Rattle.std.proofs.lemmas.Option.{none-some, same_Some}
+use Rattle.std.proofs.lemmas.Option.{same_Some}
 use Rattle.c_tree.specs.declared.lifted.Slot.{Slot}
 use Rattle.c_tree.specs.declared.mapping.LEntry.{LEntry}
 use Rattle.c_tree.specs.declared.mapping.LEntry.TheVariants as n
 use Rattle.c_tree.specs.declared.mapping.LPart.{LPart}
 use Rattle.c_tree.specs.Link.{Link, match_at}
-use Rattle.c_tree.specs.MapStack.{Part, count_of, declared_parts, is_point_of, parts_at, parts_of, parts_of_match, unchanged_parts}
+use Rattle.c_tree.specs.MapStack.{declared_parts, is_point_of, parts_at, parts_of, parts_of_match, unchanged_parts}
 use Rattle.c_tree.specs.Step.{function_of}
 use Rattle.stack_map.specs.Subjects.{point_of}
 
