@@ -1,2 +1,3 @@
 -- of names
 pub mod SlotLemmas
+pub mod PartLemmas

@@ -1,3 +1,4 @@
 pub mod Trap
 pub mod Words
 pub mod Line
+pub mod Laws

@@ -124,6 +124,21 @@ fn name_in<'a>(link: &'a Link<'_>, parts: &[LPart], slot: u32) -> &'a [u8]
     b""
 }
 
+/// The name of a slot of the parts of a frame of an old function at a place of it.
+fn slot_of<'a>(
+    link: &'a Link<'_>,
+    entries: &[LEntry],
+    at: (u32, u32),
+    slot: u32,
+) -> &'a [u8]
+    ensures { result.now ≡ spec.slot link.now entries.now at slot }
+{
+    match declared_parts(entries, at.0, at.1) {
+        Some(parts) => name_in(link, parts, slot),
+        None => slot_name(link.new().slots(matched_function(link, at.0)), slot),
+    }
+}
+
 /// Appends a slot of the parts of a frame of an old function at a place of it.
 pub fn append_slot(
     link: &Link<'_>,
@@ -134,9 +149,5 @@ pub fn append_slot(
 ) -> Result<(), AllocError>
     ensures { OnOk result (out.new.items ≡ out.old.items ++ spec.slot link.now entries.now at slot) }
 {
-    let name = match declared_parts(entries, at.0, at.1) {
-        Some(parts) => name_in(link, parts, slot),
-        None => slot_name(link.new().slots(matched_function(link, at.0)), slot),
-    };
-    out.extend_from_slice(name)
+    out.extend_from_slice(slot_of(link, entries, at, slot))
 }

@@ -1,17 +1,15 @@
 -- The new frames of an old one.
-use Rattle.std.proofs.Common.{◌≡◌, ℕ, ◌+◌, List, [], ◌∷◌, ◌++◌, map, Some, refl, sym, ◌∙◌, ap, append_assoc, length}
-use Rattle.std.specs.Prelude.{ℤ, Result, Ok, Err}
+use Rattle.std.proofs.Common.{◌≡◌, ℕ, List, ◌++◌, map, Some, refl, sym, ◌∙◌, ap, append_assoc}
+use Rattle.std.specs.Prelude.{Result, Ok, Err}
 use Rattle.c_tree.specs.declared.event.Reason.{Reason}
 use Rattle.c_tree.specs.declared.event.Reason.TheVariants as why
 use Rattle.c_tree.specs.declared.mapping.LEntry.{LEntry}
 use Rattle.c_tree.specs.declared.state.Frame.{Frame}
 use Rattle.c_tree.specs.declared.state.State.{State}
-use Rattle.c_tree.specs.Fillings.{filled}
 use Rattle.c_tree.specs.Link.{Link}
-use Rattle.c_tree.specs.MapStack.{Part, frames_by, map_frame, part_frames, parts_at}
+use Rattle.c_tree.specs.MapStack.{frames_by, map_frame, part_frames, parts_at}
 use Rattle.c_tree.specs.Refusal.{onward}
 use Rattle.c_tree.specs.Step.{view_of}
-use Rattle.c_tree.specs.Value.{View}
 use Rattle.stack_map.specs.declared.known.Known.{Known}
 use Rattle.stack_map.specs.declared.parts.Part as code
 use Rattle.stack_map.specs.Added.{after}
@@ -31,36 +29,6 @@ same_made a b e = cc
 
 no_frames : (a : List Frame) (r : Reason) → (let x : Result (List Frame) Reason = Err r in x) ≡ Ok a → ⊥
 no_frames a r e = cc
-
--- one frame more was made
-one_more : (made : List Frame) (g : Frame) (rest : Result (List Frame) Reason) → after made (onward rest (λ fs. Ok (g ∷ fs))) ≡ after (made ++ g ∷ []) rest
-one_more made g (Ok fs) = ap (λ gs. let r : Result (List Frame) Reason = Ok gs in r) (sym (append_assoc made (g ∷ []) fs))
-one_more made g (Err r) = refl
-
--- the frame of one part was made, and the parts behind it are left
-pub part_more : (x : View) (because : ℕ → ℕ → Reason) (first : ℕ) (p : Part) (rest : List Part) (made now : List Frame) → after made (part_frames x because first (p ∷ [])) ≡ Ok now →
-    after made (part_frames x because first (p ∷ rest)) ≡ after now (part_frames x because (first + length p.fillings) rest)
-part_more x because first p rest made now e = pick (filled x because first p.fillings) e where
-  frame : List ℤ → Frame
-  frame vs = record { function = p.function; place = p.place; slots = vs }
-
-  pick : (v : Result (List ℤ) Reason) → after made (onward v (λ vs. Ok (frame vs ∷ []))) ≡ Ok now →
-      after made (onward v (λ vs. onward (part_frames x because (first + length p.fillings) rest) (λ fs. Ok (frame vs ∷ fs)))) ≡ after now (part_frames x because (first + length p.fillings) rest)
-  pick (Ok vs) e =
-      one_more made (frame vs) (part_frames x because (first + length p.fillings) rest)
-      ∙ ap (λ gs. after gs (part_frames x because (first + length p.fillings) rest)) (same_made (made ++ frame vs ∷ []) now e)
-  pick (Err r) e = absurd (no_frames now r e)
-
-pub part_refused : (x : View) (because : ℕ → ℕ → Reason) (first : ℕ) (p : Part) (rest : List Part) (r : Reason) → part_frames x because first (p ∷ []) ≡ Err r → part_frames x because first (p ∷ rest) ≡ Err r
-part_refused x because first p rest r e = pick (filled x because first p.fillings) e where
-  frame : List ℤ → Frame
-  frame vs = record { function = p.function; place = p.place; slots = vs }
-
-  pick : (v : Result (List ℤ) Reason) → onward v (λ vs. Ok (frame vs ∷ [])) ≡ Err r → onward v (λ vs. onward (part_frames x because (first + length p.fillings) rest) (λ fs. Ok (frame vs ∷ fs))) ≡ Err r
-  pick (Ok vs) e = absurd (no_frames (frame vs ∷ []) r (sym e))
-  pick (Err z) e = ap (λ y. let a : Result (List Frame) Reason = Err y in a) (same_reason z r e) where
-    same_reason : (z r : Reason) → (let a : Result (List Frame) Reason = Err z in a) ≡ Err r → z ≡ r
-    same_reason z r e = cc
 
 -- the frames of one old frame were made, and the old frames behind it are left
 pub frames_more : (made now : List Frame) (first rest : Result (List Frame) Reason) → after made first ≡ Ok now →

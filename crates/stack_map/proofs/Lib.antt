@@ -10,6 +10,5 @@ pub mod CarryLemmas
 pub mod KeptLemmas
 pub mod LinkLemmas
 pub mod PartLemmas
-pub mod DepthLemmas
 pub mod FrameLemmas
 pub mod FillingsFrom

@@ -2,13 +2,13 @@
 use Rattle.std.proofs.Common.{◌≡◌, ℕ, suc, List, [], ◌∷◌, Option, Some, None, refl, ◌∙◌, ap, length}
 use Rattle.std.specs.Prelude.{find}
 use Rattle.std.specs.Option.{option_or}
-use Rattle.std.proofs.lemmas.Option.{none-some, same_Some}
+use Rattle.std.proofs.lemmas.Option.{same_Some}
 use Rattle.c_tree.specs.declared.lifted.Slot.{Slot}
 use Rattle.c_tree.specs.declared.mapping.LEntry.{LEntry}
 use Rattle.c_tree.specs.declared.mapping.LEntry.TheVariants as n
 use Rattle.c_tree.specs.declared.mapping.LPart.{LPart}
 use Rattle.c_tree.specs.Link.{Link, match_at}
-use Rattle.c_tree.specs.MapStack.{Part, count_of, declared_parts, is_point_of, parts_at, parts_of, parts_of_match, unchanged_parts}
+use Rattle.c_tree.specs.MapStack.{declared_parts, is_point_of, parts_at, parts_of, parts_of_match, unchanged_parts}
 use Rattle.c_tree.specs.Step.{function_of}
 use Rattle.stack_map.specs.Subjects.{point_of}
 
@@ -23,18 +23,6 @@ declared_at k es f i to ps m e = ap (λ o. parts_of_match k es f i o) m ∙ pick
   pick (Some (n.Field a b c)) e = absurd (let no : ⊥ = cc in no)
   pick (Some (n.Init a b)) e = absurd (let no : ⊥ = cc in no)
   pick (Some (n.Check a)) e = absurd (let no : ⊥ = cc in no)
-
--- where none does, the place stays where its function is unchanged
-pub undeclared_at : (k : Link) (es : List LEntry) (f i to : ℕ) → match_at k.functions f ≡ Some to → None ≡ point_of (find (is_point_of f i) es) →
-    parts_at k es f i ≡ unchanged_parts k f to i
-undeclared_at k es f i to m e = ap (λ o. parts_of_match k es f i o) m ∙ pick (find (is_point_of f i) es) e where
-  pick : (o : Option LEntry) → None ≡ point_of o → option_or (declared_parts k f o) (unchanged_parts k f to i) ≡ unchanged_parts k f to i
-  pick (Some (n.Point g j qs)) e = absurd (let no : ⊥ = cc in no)
-  pick None e = refl
-  pick (Some (n.Match a b c)) e = refl
-  pick (Some (n.Field a b c)) e = refl
-  pick (Some (n.Init a b)) e = refl
-  pick (Some (n.Check a)) e = refl
 
 -- they are as many as the entry has
 pub many_parts : (k : Link) (olds : List Slot) (ps : List LPart) → length (parts_of k olds ps) ≡ length ps

@@ -48,7 +48,7 @@ fn add_part(
         (moved.part part.now ∷ []) in
         MatchResult result
         (λ next. (next ≡ first + length part.now.fillings)
-            × (after made.old.items wanted ≡ Ok made.new.items))
+        × (after made.old.items wanted ≡ Ok made.new.items))
         (IsRefusal wanted) }
 {
     let next = match next_slot(first, part) {
@@ -56,7 +56,15 @@ fn add_part(
         Err(e) => return Err(MapEnd::Memory(e)),
     };
     let fillings = part.fillings.as_slice();
-    let slots = match filled(alloc, fillings, first, frame.slots.as_slice(), &[], state, whose) {
+    let slots = match filled(
+        alloc,
+        fillings,
+        first,
+        frame.slots.as_slice(),
+        &[],
+        state,
+        whose,
+    ) {
         Ok(slots) => slots,
         Err(end) => return Err(end),
     };

@@ -1,6 +1,6 @@
 use Rattle.std.proofs.Common.{◌≡◌, drop}
 use Rattle.c_tree.specs.MapGlobals as spec
-use Rattle.stack_map.proofs.After.{after}
+use Rattle.stack_map.specs.Added.{after}
 use Rattle.state_transform.proofs.globals.map_globals.Given as goal
 
 abbrev pub invariant-loop-g : goal.invariant-loop-g

@@ -1,6 +1,6 @@
 use Rattle.std.proofs.Common.{◌≡◌, ◌+◌, drop}
 use Rattle.c_tree.specs.MapHeap as spec
-use Rattle.stack_map.proofs.After.{after}
+use Rattle.stack_map.specs.Added.{after}
 use Rattle.state_transform.proofs.heap.objects_by.Given as goal
 
 abbrev pub invariant-loop-i : goal.invariant-loop-i
