@@ -95,4 +95,4 @@ bounded_reads begin ps values fits named g =
 
 -- No token of a reading is a left-out word.
 pub none_left_out : (begin : List Symbol) (ps : List Piece) (values : List Value) → IsReading begin ps values → NoneLeftOut ps
-none_left_out begin ps values r i p at k = r.sound i (cause.LeftOut (text_of (word_in (p.value ∷ [])).kind)) (slice_get_within ps i p at) (p, (at, (k, refl)))
+none_left_out begin ps values r i p at k = r.sound i (cause.LeftOut (text_of (word_in (p.value ∷ [])).kind)) (slice_get_within ps i p at) (p, at, k, refl)

@@ -409,9 +409,9 @@ point_part k can_old can_new name from p added y kept_from form kept q x more ar
     let old = function_of k.old q.function in
     let x' = part_in_order x in
     let more' = map part_in_order more in
-    let few : length more' ≤ 3 = let n : length more ≡ length added = as_many (PartForm k q.function q.match) added more forms.1 in rw length-map (omega (arith, n, form.2.2.0)) in
+    let few : length more' ≤ 3 = let n : length more ≡ length added = as_many (PartForm k q.function q.match) added more forms.1 in rw length-map (omega (arith, n, form.2)) in
     let matched : ◌≡◌ {A = Option ℕ} (Some q.match) (Some x.function) = ap (λ o. function_in k q.match o) (sym form.0) ∙ forms.0.0.0 in
-    let others = all_fit k can_old can_new q.function q.match added more (recursion_from_All IsAddedPart added form.2.2.1) kept.1 forms.1 in
+    let others = all_fit k can_old can_new q.function q.match added more (recursion_from_All IsAddedPart added form.3) kept.1 forms.1 in
     let d = parts_text k q.function (x' ∷ more') in
     let c' = codes " -> " ++ d in
     let b = point_text from ++ c' in

@@ -112,7 +112,7 @@ pub point_done : (word f : Token) (from : Pt) (m : Mapping) (behind : List Value
 point_done word f from m behind state h i x = record {
   mapping = after_action action.PointEntry (value.Parts x.parts ∷ value.Pt from ∷ value.Word f ∷ value.Word word ∷ value.Mapping m ∷ behind);
   values = ap (value_effect action.PointEntry) x.values;
-  kept = more_entries m _ _ h (i, (x.form, x.kept));
+  kept = more_entries m _ _ h (i, x.form, x.kept);
   flat = omega (arith, x.flat);
 }
 
@@ -171,7 +171,7 @@ parted : {added : List Part} {behind : List Value} {before : State} (b : Begun a
 parted b rest state is le form kept flat = record {
   parts = part_of_first b ∷ rest;
   values = is;
-  form = (refl, (read_point b.point b.kept_point, (le, form)));
+  form = (refl, read_point b.point b.kept_point, le, form);
   kept = All-cons IsKeptPart (part_of_first b) rest (b.kept_point, b.kept) kept;
   flat = flat;
 }

@@ -178,17 +178,17 @@ does rule.Parts first behind state low (flat, next) =
       λ last low'' x. (state.values, first_begun pt state.values last kept at x, next),
     )
 does rule.SecondPart first behind state low (vs, b, next) =
-    λ t is ok le few. (omega (arith, b.flat), λ after low' p at form kept flat. (p, vs, more_begun p [] vs _ after (begun_past t state b) at form kept flat, next))
+    λ t is ok le few. (omega (arith, b.flat), λ after low' p at form kept flat. (p, (vs, more_begun p [] vs _ after (begun_past t state b) at form kept flat, next)))
 does rule.SecondPart (later first) behind state low (vs, b, next) = next _ _ (one_parted vs state b)
-does rule.ThirdPart first behind state low (p, vs, b, next) =
-    λ t is ok le few. (omega (arith, b.flat), λ after low' q at form kept flat. (p, q, vs, more_begun q (p ∷ []) vs _ after (begun_past t state b) at form kept flat, next))
-does rule.ThirdPart (later first) behind state low (p, vs, b, next) = next _ _ (two_parted p vs state b)
-does rule.FourthPart first behind state low (p, q, vs, b, next) =
+does rule.ThirdPart first behind state low (p, (vs, b, next)) =
+    λ t is ok le few. (omega (arith, b.flat), λ after low' q at form kept flat. (p, q, (vs, more_begun q (p ∷ []) vs _ after (begun_past t state b) at form kept flat, next)))
+does rule.ThirdPart (later first) behind state low (p, (vs, b, next)) = next _ _ (two_parted p vs state b)
+does rule.FourthPart first behind state low (p, q, (vs, b, next)) =
     λ t is ok le few. (
       omega (arith, b.flat),
       λ after low' r at form kept flat. next _ _ (four_parted p q r vs after (more_begun r (q ∷ p ∷ []) vs _ after (begun_past t state b) at form kept flat)),
     )
-does rule.FourthPart (later first) behind state low (p, q, vs, b, next) = next _ _ (three_parted p q vs state b)
+does rule.FourthPart (later first) behind state low (p, q, (vs, b, next)) = next _ _ (three_parted p q vs state b)
 does rule.AddedPart first behind state low (flat, next) =
     λ f any le few. λ after low' pt at kept flat_pt. (
       omega (arith, flat, flat_pt),

@@ -61,7 +61,7 @@ a_placed k f x y rest at stops =
     (part_does
     (after_part (point_text y.point) g rest at (a_point y.point.kind y.point.number (g ++ rest) at y.kept (fills_stop r new.slots x.fills rest stops))
     (braced_fills k r new.slots x.fills rest (at + length (point_text y.point)) y.fills))
-    (λ vs ws h. let fs = h.2 in (fs.0, (fs.1, fs.2 ∙ ap (λ us. value.Fills fs.0 ∷ us) h.1))))
+    (λ vs ws h. let fs = h.2 in (fs.0, fs.1, fs.2 ∙ ap (λ us. value.Fills fs.0 ∷ us) h.1)))
 
 -- An added part stands in front of the values.
 abbrev pub PushesAdded : Link → ℕ → ℕ → LPart → List Value → List Value → Type 0
@@ -87,10 +87,10 @@ an_added k can f g x y rest at stops =
     let word = h.2.1.1 in
     let fs = h.2.1.2.2 in (
       record { function = Some y.name; point = y.part.point; fills = fs.0 },
-      (((y.named, y.part.found), fills_again k (reads_slots k f) slots fs.0 x.fills fs.1),
+      ((y.named, y.part.found), fills_again k (reads_slots k f) slots fs.0 x.fills fs.1),
       h.2.2 ∙ ap (λ us. value_effect action.AddPart us)
           (fs.2 ∙ ap (λ us. value.Fills fs.0 ∷ value.Pt y.part.point ∷ us) (h.2.1.2.1
-          ∙ (word.2 ∙ ap (λ us. value.Word (token_at (token.Word y.name) word.0 word.1) ∷ us) h.1)))),
+          ∙ (word.2 ∙ ap (λ us. value.Word (token_at (token.Word y.name) word.0 word.1) ∷ us) h.1))),
     )))
 
 -- the first part, as it is read
@@ -125,18 +125,18 @@ module _ (k : Link) (can : CanBeSpelt k.new) (f g : ℕ) where
   fourth_part : (added : List LPart) (rest : List ℕ) (at : ℕ) → Stops rest → length added ≤ 1 → AllByRecursion (AddedFits k f) added
       → Part (Expand rule.FourthPart ∷ []) (Fourth added) (flat_map (added_text k f) added) rest at
   fourth_part [] rest at stops le all =
-      part_of rule.FourthPart (part_does (no_text action.ThreeParts) (λ vs ws h q p fs pt others e. ([], (tt, h ∙ ap (value_effect action.ThreeParts) e)))) (later first)
+      part_of rule.FourthPart (part_does (no_text action.ThreeParts) (λ vs ws h q p fs pt others e. ([], tt, h ∙ ap (value_effect action.ThreeParts) e))) (later first)
   fourth_part (x ∷ []) rest at stops le all =
       part_of rule.FourthPart (part_as (added_text k f x ++ []) (added_text k f x) rest at (append-nil (added_text k f x))
       (part_does (acted action.FourParts (an_added k can f g x all.0 rest at stops)) (λ vs ws h q p fs pt others e.
       let one = h.1 in
-      (one.0 ∷ [], ((one.1, tt), h.2 ∙ ap (value_effect action.FourParts) (one.2 ∙ ap (λ us. value.Part one.0 ∷ us) e)))))) first
+      (one.0 ∷ [], (one.1, tt), h.2 ∙ ap (value_effect action.FourParts) (one.2 ∙ ap (λ us. value.Part one.0 ∷ us) e))))) first
   fourth_part (x ∷ z ∷ added) rest at stops le all = absurd (omega arith)
 
   third_part : (added : List LPart) (rest : List ℕ) (at : ℕ) → Stops rest → length added ≤ 2 → AllByRecursion (AddedFits k f) added
       → Part (Expand rule.ThirdPart ∷ []) (Third added) (flat_map (added_text k f) added) rest at
   third_part [] rest at stops le all =
-      part_of rule.ThirdPart (part_does (no_text action.TwoParts) (λ vs ws h p fs pt others e. ([], (tt, h ∙ ap (value_effect action.TwoParts) e)))) (later first)
+      part_of rule.ThirdPart (part_does (no_text action.TwoParts) (λ vs ws h p fs pt others e. ([], tt, h ∙ ap (value_effect action.TwoParts) e))) (later first)
   third_part (x ∷ added) rest at stops le all =
       part_of rule.ThirdPart (part_does
       (after_part (added_text k f x) (flat_map (added_text k f) added) rest at
@@ -145,12 +145,12 @@ module _ (k : Link) (can : CanBeSpelt k.new) (f g : ℕ) where
       (λ vs ws h p fs pt others e.
       let one = h.1 in
       let more = h.2 one.0 p fs pt others (one.2 ∙ ap (λ us. value.Part one.0 ∷ us) e) in
-      (one.0 ∷ more.0, ((one.1, more.1), more.2)))) first
+      (one.0 ∷ more.0, (one.1, more.1), more.2))) first
 
   second_part : (added : List LPart) (rest : List ℕ) (at : ℕ) → Stops rest → length added ≤ 3 → AllByRecursion (AddedFits k f) added
       → Part (Expand rule.SecondPart ∷ []) (Second added) (flat_map (added_text k f) added) rest at
   second_part [] rest at stops le all =
-      part_of rule.SecondPart (part_does (no_text action.OnePart) (λ vs ws h fs pt others e. ([], (tt, h ∙ ap (value_effect action.OnePart) e)))) (later first)
+      part_of rule.SecondPart (part_does (no_text action.OnePart) (λ vs ws h fs pt others e. ([], tt, h ∙ ap (value_effect action.OnePart) e))) (later first)
   second_part (x ∷ added) rest at stops le all =
       part_of rule.SecondPart (part_does
       (after_part (added_text k f x) (flat_map (added_text k f) added) rest at
@@ -159,7 +159,7 @@ module _ (k : Link) (can : CanBeSpelt k.new) (f g : ℕ) where
       (λ vs ws h fs pt others e.
       let one = h.1 in
       let more = h.2 one.0 fs pt others (one.2 ∙ ap (λ us. value.Part one.0 ∷ us) e) in
-      (one.0 ∷ more.0, ((one.1, more.1), more.2)))) first
+      (one.0 ∷ more.0, (one.1, more.1), more.2))) first
 
   -- All parts of a point: the first is of the match of the old function.
   abbrev pub PushesParts : List LPart → List Value → List Value → Type 0
@@ -176,4 +176,4 @@ module _ (k : Link) (can : CanBeSpelt k.new) (f g : ℕ) where
       (λ vs ws h.
       let fs = h.1 in
       let more = h.2 fs.0 y.point vs fs.2 in
-      (first_of y.point fs.0 ∷ more.0, ((((matched, y.found), fills_again k (reads_slots k f) slots fs.0 x.fills fs.1), more.1), more.2)))) first
+      (first_of y.point fs.0 ∷ more.0, (((matched, y.found), fills_again k (reads_slots k f) slots fs.0 x.fills fs.1), more.1), more.2))) first
