@@ -79,6 +79,13 @@ const ROWS: &[(&str, &str)] = &[
     ("patch a b m -o", "usage"),
     ("patch a b m -o p -o q", "usage"),
     ("patch a b m --output p", "usage"),
+    ("upgrade p -o q", "upgrade p q"),
+    ("upgrade -o q p", "upgrade p q"),
+    ("upgrade p -oq", "upgrade p q"),
+    ("upgrade p", "usage"),
+    ("upgrade -o q", "usage"),
+    ("upgrade p q -o r", "usage"),
+    ("upgrade p -o q --at 5", "usage"),
 ];
 
 fn words_of(alloc: Global, line: &str) -> Result<Vec<String>, AllocError> {
@@ -138,6 +145,7 @@ fn put_command(text: &mut String, command: &Command<'_>) -> Result<(), AllocErro
         Command::Transform(file) => write!(text, "transform {file}"),
         Command::Run(words) => put_run(text, words),
         Command::Patch(words) => put_patch(text, words),
+        Command::Upgrade(words) => write!(text, "upgrade {} {}", words.file, words.output),
         Command::Load(n) => write!(text, "load {n}"),
     }
 }
