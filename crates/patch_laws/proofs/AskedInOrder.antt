@@ -10,7 +10,9 @@ use Rattle.c_tree.specs.declared.lifted.LExpr.{LExpr}
 use Rattle.c_tree.specs.declared.lifted.Lifted.{Lifted}
 use Rattle.c_tree.specs.declared.lifted.Slot.{Slot}
 use Rattle.c_tree.specs.declared.mapping.Fill.{Fill}
+use Rattle.c_tree.specs.declared.mapping.Part.{Part}
 use Rattle.c_tree.specs.declared.mapping.LFill.{LFill}
+use Rattle.c_tree.specs.declared.mapping.LPart.{LPart}
 use Rattle.c_tree.specs.declared.mapping.Entry.{Entry}
 use Rattle.c_tree.specs.declared.mapping.Entry.TheVariants as n
 use Rattle.c_tree.specs.declared.mapping.LEntry.{LEntry}
@@ -21,9 +23,10 @@ use Rattle.c_tree.specs.Link.{Link}
 use Rattle.c_tree.specs.MapExpr.{Reads, only_globals, numbered}
 use Rattle.c_tree.specs.Suits.{reads_slots, reads_fields, suits_slot}
 use Rattle.c_tree.specs.Causes.{clash}
-use Rattle.c_tree.specs.Entries.{if_there, both, all_there, side_by_number, fill_by_numbers, by_numbers, least_cause, sound_entry}
+use Rattle.c_tree.specs.Entries.{if_there, both, all_there, side_by_number, fill_by_numbers, part_by_numbers, by_numbers, least_cause, sound_entry}
 use Rattle.c_tree.specs.Chain.{new_number, suited, lifted_fill_at, lifted_fill, lifted_entry, chain}
-use Rattle.patch_laws.proofs.LiftedForms.{onward_known, there_known, refuse_known, same_ok, both_known, entry_form}
+use Rattle.patch_laws.proofs.Beside.{all_from, zip_weaker}
+use Rattle.patch_laws.proofs.LiftedForms.{onward_known, there_known, refuse_known, same_ok, both_known, PartForm, entry_form}
 use Rattle.patch_laws.proofs.LeastCause.{cause_of, chain_cause}
 
 -- what suits is there
@@ -55,6 +58,11 @@ fills_there k r slots (x ∷ rest) xs w =
     ap (λ o. both o (all_there (map (fill_by_numbers r slots) rest))) (fill_there k r slots x (find_name x.slot (slot_names slots)) q.0 q.2)
     ∙ (ap (λ o. both (Some q.0) o) (fills_there k r slots rest q.1 q.3) ∙ ap (λ z. Some z) q.4)
 
+part_there : (k : Link) (f g : ℕ) (p : Part) (x : LPart) → PartForm k f g p x → part_by_numbers k f g p ≡ Some x
+part_there k f g p x e =
+    let there = fills_there k (reads_slots k f) (function_of k.new x.function).slots p.fills x.fills e.1 in
+    rw (e.0.0, e.0.1, there) refl
+
 -- what passes the chain is the entry by numbers
 pub passed_numbers : (k : Link) (x : Entry) (y : LEntry) → lifted_entry k x ≡ Ok y → by_numbers k x ≡ Some y
 passed_numbers k (n.Match i a b) y w =
@@ -68,10 +76,11 @@ passed_numbers k (n.Init name x) y w =
     let q = entry_form k (n.Init name x) y w in
     let there : numbered (only_globals k.old) x.kind ≡ Some q.value = suited_there _ _ q.value q.filled in
     rw (q.global_found, there) (ap (λ z. Some z) q.is)
-passed_numbers k (n.Point name from to fills) y w =
-    let q = entry_form k (n.Point name from to fills) y w in
-    let there = fills_there k (reads_slots k q.function) (function_of k.new q.match).slots fills q.values q.filled in
-    rw (q.function_found, q.matched, q.old_found, q.new_found, there) (ap (λ z. Some z) q.is)
+passed_numbers k (n.Point name from parts) y w =
+    let q = entry_form k (n.Point name from parts) y w in
+    let there = all_from (part_by_numbers k q.function q.match) parts q.values
+    (zip_weaker (PartForm k q.function q.match) (λ p x. part_by_numbers k q.function q.match p ≡ Some x) (part_there k q.function q.match) parts q.values q.parts_found) in
+    rw (q.function_found, q.matched, q.old_found, there) (ap (λ z. Some z) q.is)
 passed_numbers k (n.Check x) y w =
     let q = entry_form k (n.Check x) y w in
     let there : numbered (only_globals k.old) x.kind ≡ Some q.value = suited_there _ _ q.value q.filled in

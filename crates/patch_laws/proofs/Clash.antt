@@ -7,7 +7,7 @@ use Rattle.std.proofs.lemmas.Bool.Decides.{nat_tests}
 use Rattle.c_tree.specs.declared.lifted.Lifted.{Lifted}
 use Rattle.c_tree.specs.declared.program.Expr.{Expr}
 use Rattle.c_tree.specs.declared.mapping.Pt.{Pt}
-use Rattle.c_tree.specs.declared.mapping.Fill.{Fill}
+use Rattle.c_tree.specs.declared.mapping.Part.{Part}
 use Rattle.c_tree.specs.declared.mapping.Entry.{Entry}
 use Rattle.c_tree.specs.declared.mapping.Entry.TheVariants as n
 use Rattle.c_tree.specs.declared.mapping.LEntry.{LEntry}
@@ -40,27 +40,27 @@ clash_swapped (l.Match i a b) (l.Match j c d) =
     ∙ (ap (λ z. j == i && (z || same_number b d)) (eqb_swapped a c) ∙ ap (λ z. j == i && (c == a || z)) (number_swapped b d))
 clash_swapped (l.Field s a x) (l.Field t b y) = ap (λ z. z && a == b) (eqb_swapped s t) ∙ ap (λ z. t == s && z) (eqb_swapped a b)
 clash_swapped (l.Init a x) (l.Init b y) = eqb_swapped a b
-clash_swapped (l.Point f p q x) (l.Point g r s y) = ap (λ z. z && p == r) (eqb_swapped f g) ∙ ap (λ z. g == f && z) (eqb_swapped p r)
+clash_swapped (l.Point f p x) (l.Point g r y) = ap (λ z. z && p == r) (eqb_swapped f g) ∙ ap (λ z. g == f && z) (eqb_swapped p r)
 clash_swapped (l.Match i a b) (l.Field t c y) = refl
 clash_swapped (l.Match i a b) (l.Init c y) = refl
-clash_swapped (l.Match i a b) (l.Point g r s y) = refl
+clash_swapped (l.Match i a b) (l.Point g r y) = refl
 clash_swapped (l.Match i a b) (l.Check y) = refl
 clash_swapped (l.Field s a x) (l.Match j c d) = refl
 clash_swapped (l.Field s a x) (l.Init c y) = refl
-clash_swapped (l.Field s a x) (l.Point g r t y) = refl
+clash_swapped (l.Field s a x) (l.Point g r y) = refl
 clash_swapped (l.Field s a x) (l.Check y) = refl
 clash_swapped (l.Init a x) (l.Match j c d) = refl
 clash_swapped (l.Init a x) (l.Field t b y) = refl
-clash_swapped (l.Init a x) (l.Point g r s y) = refl
+clash_swapped (l.Init a x) (l.Point g r y) = refl
 clash_swapped (l.Init a x) (l.Check y) = refl
-clash_swapped (l.Point f p q x) (l.Match j c d) = refl
-clash_swapped (l.Point f p q x) (l.Field t b y) = refl
-clash_swapped (l.Point f p q x) (l.Init b y) = refl
-clash_swapped (l.Point f p q x) (l.Check y) = refl
+clash_swapped (l.Point f p x) (l.Match j c d) = refl
+clash_swapped (l.Point f p x) (l.Field t b y) = refl
+clash_swapped (l.Point f p x) (l.Init b y) = refl
+clash_swapped (l.Point f p x) (l.Check y) = refl
 clash_swapped (l.Check x) (l.Match j c d) = refl
 clash_swapped (l.Check x) (l.Field t b y) = refl
 clash_swapped (l.Check x) (l.Init b y) = refl
-clash_swapped (l.Check x) (l.Point g r s y) = refl
+clash_swapped (l.Check x) (l.Point g r y) = refl
 clash_swapped (l.Check x) (l.Check y) = refl
 
 and_grouped : (a b c : Bool) → (a && b && c) ≡ (a && (b && c))
@@ -108,13 +108,13 @@ init_clash k a b v w y z p q =
     same_found (names_in k.new 2) a b p.global q.global p.global_found q.global_found
     ∙ (ap (λ x. numbers_clash x (l.Init q.global q.value)) p.is ∙ ap (λ x. numbers_clash y x) q.is)
 
-point_clash : (k : Link) (f g : List ℕ) (a b c d : Pt) (v w : List Fill) (y z : LEntry) → PointForm k f a b v y → PointForm k g c d w z →
-    clash (n.Point f a b v) (n.Point g c d w) ≡ numbers_clash y z
-point_clash k f g a b c d v w y z p q =
+point_clash : (k : Link) (f g : List ℕ) (a c : Pt) (v w : List Part) (y z : LEntry) → PointForm k f a v y → PointForm k g c w z →
+    clash (n.Point f a v) (n.Point g c w) ≡ numbers_clash y z
+point_clash k f g a c v w y z p q =
     and_grouped (is_same_name f g) (is_kind a.kind c.kind) (a.number == c.number)
     ∙ (and_same (is_same_name f g) (p.function == q.function) (is_kind a.kind c.kind && a.number == c.number) (p.old_place == q.old_place) functions
     (λ h. places (eqb-true p.function q.function (sym functions ∙ h)))
-    ∙ (ap (λ x. numbers_clash x (l.Point q.function q.old_place q.new_place q.values)) p.is ∙ ap (λ x. numbers_clash y x) q.is))
+    ∙ (ap (λ x. numbers_clash x (l.Point q.function q.old_place q.values)) p.is ∙ ap (λ x. numbers_clash y x) q.is))
   where
     functions : is_same_name f g ≡ (p.function == q.function)
     functions = same_found (names_in k.old 0) f g p.function q.function p.function_found q.function_found
@@ -130,27 +130,27 @@ form_clash : (k : Link) (a b : Entry) (y z : LEntry) → EntryForm k a y → Ent
 form_clash k (n.Match i a b) (n.Match j c d) y z p q = match_clash k i j a c b d y z p q
 form_clash k (n.Field s a v) (n.Field t b w) y z p q = field_clash k s t a b v w y z p q
 form_clash k (n.Init a v) (n.Init b w) y z p q = init_clash k a b v w y z p q
-form_clash k (n.Point f a b v) (n.Point g c d w) y z p q = point_clash k f g a b c d v w y z p q
+form_clash k (n.Point f a v) (n.Point g c w) y z p q = point_clash k f g a c v w y z p q
 form_clash k (n.Match i a b) (n.Field t c w) y z p q = apart y z _ _ p.is q.is refl
 form_clash k (n.Match i a b) (n.Init c w) y z p q = apart y z _ _ p.is q.is refl
-form_clash k (n.Match i a b) (n.Point g c d w) y z p q = apart y z _ _ p.is q.is refl
+form_clash k (n.Match i a b) (n.Point g c w) y z p q = apart y z _ _ p.is q.is refl
 form_clash k (n.Match i a b) (n.Check w) y z p q = apart y z _ _ p.is q.is refl
 form_clash k (n.Field s a v) (n.Match j c d) y z p q = apart y z _ _ p.is q.is refl
 form_clash k (n.Field s a v) (n.Init c w) y z p q = apart y z _ _ p.is q.is refl
-form_clash k (n.Field s a v) (n.Point g c d w) y z p q = apart y z _ _ p.is q.is refl
+form_clash k (n.Field s a v) (n.Point g c w) y z p q = apart y z _ _ p.is q.is refl
 form_clash k (n.Field s a v) (n.Check w) y z p q = apart y z _ _ p.is q.is refl
 form_clash k (n.Init a v) (n.Match j c d) y z p q = apart y z _ _ p.is q.is refl
 form_clash k (n.Init a v) (n.Field t b w) y z p q = apart y z _ _ p.is q.is refl
-form_clash k (n.Init a v) (n.Point g c d w) y z p q = apart y z _ _ p.is q.is refl
+form_clash k (n.Init a v) (n.Point g c w) y z p q = apart y z _ _ p.is q.is refl
 form_clash k (n.Init a v) (n.Check w) y z p q = apart y z _ _ p.is q.is refl
-form_clash k (n.Point f a b v) (n.Match j c d) y z p q = apart y z _ _ p.is q.is refl
-form_clash k (n.Point f a b v) (n.Field t c w) y z p q = apart y z _ _ p.is q.is refl
-form_clash k (n.Point f a b v) (n.Init c w) y z p q = apart y z _ _ p.is q.is refl
-form_clash k (n.Point f a b v) (n.Check w) y z p q = apart y z _ _ p.is q.is refl
+form_clash k (n.Point f a v) (n.Match j c d) y z p q = apart y z _ _ p.is q.is refl
+form_clash k (n.Point f a v) (n.Field t c w) y z p q = apart y z _ _ p.is q.is refl
+form_clash k (n.Point f a v) (n.Init c w) y z p q = apart y z _ _ p.is q.is refl
+form_clash k (n.Point f a v) (n.Check w) y z p q = apart y z _ _ p.is q.is refl
 form_clash k (n.Check v) (n.Match j c d) y z p q = apart y z _ _ p.is q.is refl
 form_clash k (n.Check v) (n.Field t b w) y z p q = apart y z _ _ p.is q.is refl
 form_clash k (n.Check v) (n.Init b w) y z p q = apart y z _ _ p.is q.is refl
-form_clash k (n.Check v) (n.Point g c d w) y z p q = apart y z _ _ p.is q.is refl
+form_clash k (n.Check v) (n.Point g c w) y z p q = apart y z _ _ p.is q.is refl
 form_clash k (n.Check v) (n.Check w) y z p q = apart y z _ _ p.is q.is refl
 
 -- two entries that lift clash exactly where their numbers do

@@ -3,9 +3,10 @@ use Rattle.std.proofs.Common.{◌≡◌, ℕ, Bool, true, false, List, [], ◌�
 use Rattle.std.specs.Prelude.{map, ◌==◌, ◌&&◌, ◌||◌, nat_lt}
 use Rattle.std.proofs.lemmas.Bool.Decides.{nat_tests}
 use Rattle.c_tree.specs.declared.mapping.LFill.{LFill}
+use Rattle.c_tree.specs.declared.mapping.LPart.{LPart}
 use Rattle.c_tree.specs.declared.mapping.LEntry.{LEntry}
 use Rattle.c_tree.specs.declared.mapping.LEntry.TheVariants as l
-use Rattle.c_tree.specs.Canonical.{sorted_by, Key, key_of, is_before, fills_in_order, with_fills_in_order, canonical}
+use Rattle.c_tree.specs.Canonical.{sorted_by, Key, key_of, is_before, fills_in_order, part_in_order, with_fills_in_order, canonical}
 use Rattle.patch_laws.proofs.Sorting.{InOrder, sorted_in_order, sorted_twice, sorted_map}
 
 -- of two keys one at most is less
@@ -23,18 +24,24 @@ slot_once a b e = grind (arith, nat_tests)
 pub fills_kept : (fills : List LFill) → fills_in_order (fills_in_order fills) ≡ fills_in_order fills
 fills_kept fills = sorted_twice (λ a b. nat_lt a.slot b.slot) slot_once fills
 
+pub parts_kept : (parts : List LPart) → map part_in_order (map part_in_order parts) ≡ map part_in_order parts
+parts_kept [] = refl
+parts_kept (p ∷ rest) =
+    ap (λ z. record p { fills = z } ∷ map part_in_order (map part_in_order rest)) (fills_kept p.fills)
+    ∙ ap (λ z. part_in_order p ∷ z) (parts_kept rest)
+
 pub entry_kept : (x : LEntry) → with_fills_in_order (with_fills_in_order x) ≡ with_fills_in_order x
 entry_kept (l.Match i a b) = refl
 entry_kept (l.Field s i x) = refl
 entry_kept (l.Init g x) = refl
-entry_kept (l.Point f p q fills) = ap (λ z. l.Point f p q z) (fills_kept fills)
+entry_kept (l.Point f p parts) = ap (λ z. l.Point f p z) (parts_kept parts)
 entry_kept (l.Check x) = refl
 
 pub key_kept : (x : LEntry) → key_of (with_fills_in_order x) ≡ key_of x
 key_kept (l.Match i a b) = refl
 key_kept (l.Field s i x) = refl
 key_kept (l.Init g x) = refl
-key_kept (l.Point f p q fills) = refl
+key_kept (l.Point f p parts) = refl
 key_kept (l.Check x) = refl
 
 entries_kept : (xs : List LEntry) → map with_fills_in_order (map with_fills_in_order xs) ≡ map with_fills_in_order xs

@@ -4,7 +4,7 @@ use Rattle.std.specs.Prelude.{zero, suc, map, ◌==◌, ◌&&◌, ◌||◌, nat_
 use Rattle.std.specs.Option.{ok_or, option_map, option_and_then}
 use Rattle.std.specs.List.{list_any, AllZip}
 use Rattle.std.proofs.lemmas.Option.{none-some, same_Some}
-use Rattle.std.proofs.lemmas.Bool.{both_ways}
+use Rattle.std.proofs.lemmas.Bool.{both_ways, or_parts}
 use Rattle.std.proofs.lemmas.Bool.Decides.{nat_tests}
 use Rattle.c_tree.specs.declared.cause.EntryCause.{EntryCause}
 use Rattle.c_tree.specs.declared.cause.EntryCause.TheVariants as c
@@ -15,7 +15,9 @@ use Rattle.c_tree.specs.declared.place.PlaceKind.TheVariants as kind
 use Rattle.c_tree.specs.declared.program.Expr.{Expr}
 use Rattle.c_tree.specs.declared.mapping.Pt.{Pt}
 use Rattle.c_tree.specs.declared.mapping.Fill.{Fill}
+use Rattle.c_tree.specs.declared.mapping.Part.{Part}
 use Rattle.c_tree.specs.declared.mapping.LFill.{LFill}
+use Rattle.c_tree.specs.declared.mapping.LPart.{LPart}
 use Rattle.c_tree.specs.declared.mapping.Entry.{Entry}
 use Rattle.c_tree.specs.declared.mapping.Entry.TheVariants as n
 use Rattle.c_tree.specs.declared.mapping.LEntry.{LEntry}
@@ -24,16 +26,17 @@ use Rattle.c_tree.specs.Scope.{is_same_name}
 use Rattle.c_tree.specs.Layout.{places}
 use Rattle.c_tree.specs.Step.{function_of}
 use Rattle.c_tree.specs.Refusal.{onward, refuse_if}
-use Rattle.c_tree.specs.Names.{same_number, find_name, names_in, slot_names, struct_of}
+use Rattle.c_tree.specs.Names.{is_number, same_number, find_name, names_in, slot_names, struct_of}
 use Rattle.c_tree.specs.Points.{is_kind, place_of, callee_at}
 use Rattle.c_tree.specs.Link.{Link, match_at, origin}
 use Rattle.c_tree.specs.MapExpr.{Reads, slots_of, fields_of, reads_of, only_globals, numbered, scalar_type}
-use Rattle.c_tree.specs.Suits.{site, is_call_at, kinds_differ, match_of_callee, callees_differ, start_differs, reads_slots, reads_fields, suits, slot_asked, suits_slot, suits_global, suits_check, has_twice}
-use Rattle.c_tree.specs.Causes.{exactly_one, some_passes, has_name, lacks_side, old_function, new_function, lacks_function, has_point, lacks_point, is_call, differs_in_kind, called_at, differs_in_callee, is_main, can_start, differs_in_start, can_fill, type_named, new_struct, fills_badly, has_name_twice, clash}
-use Rattle.c_tree.specs.Entries.{both, all_there, least_cause}
-use Rattle.c_tree.specs.Chain.{missing, lifted_match, suited, lifted_fill_at, lifted_fill, chain}
+use Rattle.c_tree.specs.Suits.{Site, site, is_call_at, callee_of, some_neighbours, last_is, kind_differs, kinds_differ, match_of_callee, links_to, callee_differs, callees_differ, start_differs, reads_slots, reads_fields, suits, slot_asked, suits_slot, suits_global, suits_check, has_twice}
+use Rattle.c_tree.specs.Causes.{exactly_one, some_passes, has_name, lacks_side, old_function, new_function, function_of_part, part_function, lacks_function, has_point, lacks_point, is_call, differs_in_kind, called_at, part_callee, calls_another, misses_callee, differs_in_callee, is_main, can_start, differs_in_start, can_fill, type_named, new_struct, part_fills_badly, fills_badly, has_name_twice, fills_twice, clash}
+use Rattle.c_tree.specs.Entries.{all_there, function_in, least_cause}
+use Rattle.c_tree.specs.Chain.{missing, lifted_match, suited, lifted_fill_at, lifted_fill, site_of, sites_of, lifted_part, lifted_parts, is_twice_filled, chain}
 use Rattle.patch_laws.proofs.Numbers.{same_found, found_kind}
-use Rattle.patch_laws.proofs.LiftedForms.{both_known}
+use Rattle.patch_laws.proofs.Beside.{mapped_some, both_known, not_both, one_missing, zip_missing, all_known, zip_any, zip_neighbours, zip_last, no_neighbours, no_last}
+use Rattle.patch_laws.proofs.LiftedForms.{StandsAt, sites_known, PartForm, parts_known}
 use Rattle.c_tree.proofs.CanMatch.{none_start, some_start}
 
 -- the cause that an answer has
@@ -56,6 +59,17 @@ after_then : {A B : Type 0} (o : Option A) (m : A → Option B) (e : EntryCause)
     ends t (onward (ok_or o e) (λ x. onward (ok_or (m x) e) (go x))) ≡ cond h (Some e) rest
 after_then None m e go t h rest q more = ap (λ z. cond z (Some e) rest) (sym q)
 after_then (Some x) m e go t h rest q more = after_there (m x) e (go x) t h rest q (λ y f. more x y refl f)
+
+after_all : {A B C : Type 0} (o : Option A) (m : A → Option B) (p : A → B → Option C) (e : EntryCause) (go : A → B → C → Result LEntry EntryCause) (t h : Bool) (rest : Option EntryCause) →
+    (is_some (option_and_then m o) ≡ false → h ≡ true) → ((x : A) (y : B) → o ≡ Some x → m x ≡ Some y → h ≡ not (is_some (p x y))) →
+    ((x : A) (y : B) (z : C) → o ≡ Some x → m x ≡ Some y → p x y ≡ Some z → ends t (go x y z) ≡ rest) →
+    ends t (onward (ok_or o e) (λ x. onward (ok_or (m x) e) (λ y. onward (ok_or (p x y) e) (go x y)))) ≡ cond h (Some e) rest
+after_all None m p e go t h rest lacks q more = ap (λ z. cond z (Some e) rest) (sym (lacks refl))
+after_all {A} {B} {C} (Some x) m p e go t h rest lacks q more = matched (m x) lacks (λ y f. q x y refl f) (λ y z f g. more x y z refl f g) refl where
+  matched : (o : Option B) → (is_some o ≡ false → h ≡ true) → ((y : B) → m x ≡ Some y → h ≡ not (is_some (p x y))) → ((y : B) (z : C) → m x ≡ Some y → p x y ≡ Some z → ends t (go x y z) ≡ rest) →
+      m x ≡ o → ends t (onward (ok_or o e) (λ y. onward (ok_or (p x y) e) (go x y))) ≡ cond h (Some e) rest
+  matched None lacks q more f = ap (λ z. cond z (Some e) rest) (sym (lacks refl))
+  matched (Some y) lacks q more f = after_there (p x y) e (go x y) t h rest (q y f) (λ z g. more y z f g)
 
 after_both : {A B : Type 0} (o : Option A) (p : Option B) (e : EntryCause) (go : A → B → Result LEntry EntryCause) (t h : Bool) (rest : Option EntryCause) →
     h ≡ not (is_some o && is_some p) → ((x : A) (y : B) → o ≡ Some x → p ≡ Some y → ends t (go x y) ≡ rest) →
@@ -110,24 +124,11 @@ fill_there k r slots x (Some i) = mapped (suited (suits_slot k r slots i) (numbe
   mapped None = refl
   mapped (Some y) = refl
 
-not_both : (a b : Bool) → (not a || not b) ≡ not (a && b)
-not_both true b = refl
-not_both false b = refl
-
-some_both : {A : Type 0} (o : Option A) (r : Option (List A)) → (is_some o && is_some r) ≡ is_some (both o r)
-some_both None r = refl
-some_both (Some x) None = refl
-some_both (Some x) (Some xs) = refl
-
 fills_there : (k : Link) (r : Reads) (slots : List Slot) (xs : List Fill) →
     list_any (λ x. not (can_fill k r (type_named slots x.slot) x.expr)) xs ≡ not (is_some (all_there (map (lifted_fill k r slots) xs)))
-fills_there k r slots [] = refl
-fills_there k r slots (x ∷ rest) =
-    ap (λ z. not z || list_any (λ x. not (can_fill k r (type_named slots x.slot) x.expr)) rest)
-    (slot_filled k r slots x.expr (find_name x.slot (slot_names slots)) ∙ fill_there k r slots x.expr (find_name x.slot (slot_names slots)))
-    ∙ (ap (λ z. not (is_some (lifted_fill k r slots x)) || z) (fills_there k r slots rest)
-    ∙ (not_both (is_some (lifted_fill k r slots x)) (is_some (all_there (map (lifted_fill k r slots) rest)))
-    ∙ ap (λ z. not z) (some_both (lifted_fill k r slots x) (all_there (map (lifted_fill k r slots) rest)))))
+fills_there k r slots xs =
+    one_missing (λ x. not (can_fill k r (type_named slots x.slot) x.expr)) (lifted_fill k r slots)
+    (λ x. ap not (slot_filled k r slots x.expr (find_name x.slot (slot_names slots)) ∙ fill_there k r slots x.expr (find_name x.slot (slot_names slots)))) xs
 
 -- slots that are filled twice
 fill_number : (k : Link) (r : Reads) (slots : List Slot) (x : Expr) (o : Option ℕ) (y : LFill) → lifted_fill_at k r slots x o ≡ Some y → o ≡ Some y.slot
@@ -268,58 +269,133 @@ check_least k earlier x =
     (cond (list_any (clash (n.Check x)) earlier || false) (Some c.Twice) None) (ap (λ z. not z) (suited_some (suits_check k) (numbered (only_globals k.old) x.kind)))
     (λ y _. at_end (list_any (clash (n.Check x)) earlier) (l.Check y))
 
--- points
-call_known : (k : Link) (f g i m : ℕ) (from to : Pt) → place_of (function_of k.old f) from ≡ Some i → place_of (function_of k.new g) to ≡ Some m →
-    exactly_one (is_call from) (is_call to) ≡ kinds_differ k (site f i) (site g m)
-call_known k f g i m from to e w =
-    ap (λ z. exactly_one (is_kind kind.Call z) (is_call to)) (sym (found_kind (places (function_of k.old f)) from.kind from.number i e))
-    ∙ ap (λ z. exactly_one (is_call_at k.old (site f i)) (is_kind kind.Call z)) (sym (found_kind (places (function_of k.new g)) to.kind to.number m w))
+-- points: the functions of the parts
+part_named : (k : Link) (name : List ℕ) (g : ℕ) → new_function k name ≡ Some g → (o : Option (List ℕ)) → function_of_part k name o ≡ function_in k g o
+part_named k name g q None = q
+part_named k name g q (Some part) = refl
 
-callee_known : (k : Link) (name : List ℕ) (f g i m : ℕ) (from to : Pt) (xs : List Fill) → old_function k name ≡ Some f → new_function k name ≡ Some g →
-    place_of (function_of k.old f) from ≡ Some i → place_of (function_of k.new g) to ≡ Some m → kinds_differ k (site f i) (site g m) ≡ false →
-    differs_in_callee k (n.Point name from to xs) ≡ callees_differ k (site f i) (site g m)
-callee_known k name f g i m from to xs p q e w same =
-    both_calls (is_call from) (is_call to) (not (same_number (match_of_callee k (called_at k.old (old_function k name) from)) (called_at k.new (new_function k name) to))) (call_known k f g i m from to e w ∙ same)
-    ∙ (ap (λ z. is_kind kind.Call z && not (same_number (match_of_callee k (called_at k.old (old_function k name) from)) (called_at k.new (new_function k name) to)))
-    (sym (found_kind (places (function_of k.old f)) from.kind from.number i e))
-    ∙ (ap (λ z. is_call_at k.old (site f i) && not (same_number (match_of_callee k z) (called_at k.new (new_function k name) to))) (called k.old (old_function k name) f i from p e)
-    ∙ ap (λ z. is_call_at k.old (site f i) && not (same_number (match_of_callee k (callee_at (function_of k.old f) i)) z)) (called k.new (new_function k name) g m to q w)))
+functions_lack : (k : Link) (name : List ℕ) (g : ℕ) (from : Pt) (parts : List Part) → new_function k name ≡ Some g →
+    lacks_function k (n.Point name from parts) ≡ not (is_some (all_there (map (λ p. function_in k g p.function) parts)))
+functions_lack k name g from parts q =
+    ap (λ o. not (is_some o) || list_any (λ p. not (is_some (part_function k name p))) parts) q
+    ∙ one_missing (λ p. not (is_some (part_function k name p))) (λ p. function_in k g p.function) (λ p. ap (λ o. not (is_some o)) (part_named k name g q p.function)) parts
+
+-- the places
+abbrev Named : Link → ℕ → List Part → List ℕ → Type 0
+Named k g parts hs = AllZip (λ p h. function_in k g p.function ≡ Some h) parts hs
+
+point_lacks : (k : Link) (name : List ℕ) (g : ℕ) → new_function k name ≡ Some g → (p : Part) (h : ℕ) → function_in k g p.function ≡ Some h →
+    not (has_point k.new (part_function k name p) p.point) ≡ not (is_some (site_of k h p.point))
+point_lacks k name g q p h e =
+    ap (λ o. not (has_point k.new o p.point)) (part_named k name g q p.function ∙ e)
+    ∙ ap not (mapped_some (λ m. site h m) (place_of (function_of k.new h) p.point))
+
+points_lack : (k : Link) (name : List ℕ) (f g : ℕ) (from : Pt) (parts : List Part) (hs : List ℕ) → old_function k name ≡ Some f → new_function k name ≡ Some g → Named k g parts hs →
+    lacks_point k (n.Point name from parts) ≡ not (is_some (place_of (function_of k.old f) from) && is_some (sites_of k hs parts))
+points_lack k name f g from parts hs p q r =
+    ap (λ o. not (has_point k.old o from) || list_any (λ p. not (has_point k.new (part_function k name p) p.point)) parts) p
+    ∙ (ap (λ b. not (is_some (place_of (function_of k.old f) from)) || b)
+    (zip_missing (λ p h. function_in k g p.function ≡ Some h) (λ p. not (has_point k.new (part_function k name p) p.point)) (λ x. site_of k x.0 x.1.point) (point_lacks k name g q) parts hs r)
+    ∙ not_both (is_some (place_of (function_of k.old f) from)) (is_some (sites_of k hs parts)))
+
+-- calls
+old_call : (k : Link) (f i : ℕ) (from : Pt) → place_of (function_of k.old f) from ≡ Some i → is_call from ≡ is_call_at k.old (site f i)
+old_call k f i from e = ap (λ z. is_kind kind.Call z) (sym (found_kind (places (function_of k.old f)) from.kind from.number i e))
+
+part_call : (k : Link) (g : ℕ) (p : Part) (s : Site) → StandsAt k g p s → is_call p.point ≡ is_call_at k.new s
+part_call k g p s e = ap (λ z. is_kind kind.Call z) (sym (found_kind (places (function_of k.new s.function)) p.point.kind p.point.number s.place e.1))
+
+kinds_known : (k : Link) (name : List ℕ) (f g i : ℕ) (from : Pt) (parts : List Part) (sites : List Site) → place_of (function_of k.old f) from ≡ Some i → AllZip (StandsAt k g) parts sites →
+    differs_in_kind (n.Point name from parts) ≡ kinds_differ k (site f i) sites
+kinds_known k name f g i from parts sites e r =
+    ap (λ b. b || last_is (λ p. exactly_one (is_call from) (is_call p.point)) parts)
+    (zip_neighbours (StandsAt k g) (λ p next. false) (λ p next. not (is_call p.point)) (λ s next. not (is_call_at k.new s)) (λ p next s z a b _. ap not (part_call k g p s a)) parts sites r (no_neighbours parts))
+    ∙ ap (λ b. some_neighbours (λ s next. not (is_call_at k.new s)) sites || b)
+    (zip_last (StandsAt k g) (λ p. false) (λ p. exactly_one (is_call from) (is_call p.point)) (kind_differs k (site f i)) kind_known parts sites r (no_last parts))
+  where
+    kind_known : (p : Part) (s : Site) → StandsAt k g p s → false ≡ false → exactly_one (is_call from) (is_call p.point) ≡ kind_differs k (site f i) s
+    kind_known p s a _ = ap (λ z. exactly_one z (is_call p.point)) (old_call k f i from e) ∙ ap (λ z. exactly_one (is_call_at k.old (site f i)) z) (part_call k g p s a)
+
+called : (p : Lifted) (o : Option ℕ) (f i : ℕ) (pt : Pt) → o ≡ Some f → place_of (function_of p f) pt ≡ Some i → called_at p o pt ≡ callee_at (function_of p f) i
+called p o f i pt q e = ap (λ z. called_at p z pt) q ∙ ap (λ z. option_and_then (callee_at (function_of p f)) z) e
+
+part_called : (k : Link) (name : List ℕ) (g : ℕ) → new_function k name ≡ Some g → (p : Part) (s : Site) → StandsAt k g p s → part_callee k name p ≡ callee_of k.new s
+part_called k name g q p s a = called k.new (part_function k name p) s.function s.place p.point (part_named k name g q p.function ∙ a.0) a.1
+
+same_is : (o : Option ℕ) (h : ℕ) → same_number o (Some h) ≡ is_number o h
+same_is None h = refl
+same_is (Some i) h = refl
+
+links_known : (k : Link) (name : List ℕ) (g : ℕ) → new_function k name ≡ Some g → (p next : Part) (s z : Site) → StandsAt k g p s → StandsAt k g next z → not (is_call p.point) ≡ false →
+    calls_another k name p next ≡ not (links_to k.new s z)
+links_known k name g q p next s z a b c =
+    ap (λ t. t && not (same_number (part_callee k name p) (part_function k name next))) (is_true (is_call p.point) c)
+    ∙ (ap (λ o. not (same_number o (part_function k name next))) (part_called k name g q p s a)
+    ∙ (ap (λ o. not (same_number (callee_of k.new s) o)) (part_named k name g q next.function ∙ b.0) ∙ ap not (same_is (callee_of k.new s) z.function)))
+  where
+    is_true : (t : Bool) → not t ≡ false → t ≡ true
+    is_true true e = refl
+    is_true false e = absurd (both_ways true e refl)
+
+misses_known : (k : Link) (name : List ℕ) (f g i : ℕ) (from : Pt) → old_function k name ≡ Some f → new_function k name ≡ Some g → place_of (function_of k.old f) from ≡ Some i →
+    (p : Part) (s : Site) → StandsAt k g p s → exactly_one (is_call from) (is_call p.point) ≡ false → misses_callee k name from p ≡ callee_differs k (site f i) s
+misses_known k name f g i from w q e p s a c =
+    both_calls (is_call from) (is_call p.point) (not (same_number (match_of_callee k (called_at k.old (old_function k name) from)) (part_callee k name p))) c
+    ∙ (ap (λ z. z && not (same_number (match_of_callee k (called_at k.old (old_function k name) from)) (part_callee k name p))) (old_call k f i from e)
+    ∙ (ap (λ z. is_call_at k.old (site f i) && not (same_number (match_of_callee k z) (part_callee k name p))) (called k.old (old_function k name) f i from w e)
+    ∙ ap (λ z. is_call_at k.old (site f i) && not (same_number (match_of_callee k (callee_of k.old (site f i))) z)) (part_called k name g q p s a)))
   where
     both_calls : (a b z : Bool) → exactly_one a b ≡ false → (a && b && z) ≡ (a && z)
     both_calls true true z r = refl
     both_calls true false z r = absurd (both_ways true r refl)
     both_calls false b z r = refl
 
-    called : (p : Lifted) (o : Option ℕ) (f i : ℕ) (pt : Pt) → o ≡ Some f → place_of (function_of p f) pt ≡ Some i → called_at p o pt ≡ callee_at (function_of p f) i
-    called p o f i pt q e = ap (λ z. called_at p z pt) q ∙ ap (λ z. option_and_then (callee_at (function_of p f)) z) e
+callees_known : (k : Link) (name : List ℕ) (f g i : ℕ) (from : Pt) (parts : List Part) (sites : List Site) → old_function k name ≡ Some f → new_function k name ≡ Some g →
+    place_of (function_of k.old f) from ≡ Some i → AllZip (StandsAt k g) parts sites → kinds_differ k (site f i) sites ≡ false →
+    differs_in_callee k (n.Point name from parts) ≡ callees_differ k (site f i) sites
+callees_known k name f g i from parts sites w q e r same =
+    let alike = or_parts (some_neighbours (λ p next. not (is_call p.point)) parts) (last_is (λ p. exactly_one (is_call from) (is_call p.point)) parts) (kinds_known k name f g i from parts sites e r ∙ same) in
+    ap (λ b. b || last_is (misses_callee k name from) parts)
+    (zip_neighbours (StandsAt k g) (λ p next. not (is_call p.point)) (calls_another k name) (λ s next. not (links_to k.new s next)) (links_known k name g q) parts sites r alike.0)
+    ∙ ap (λ b. some_neighbours (λ s next. not (links_to k.new s next)) sites || b)
+    (zip_last (StandsAt k g) (λ p. exactly_one (is_call from) (is_call p.point)) (misses_callee k name from) (callee_differs k (site f i)) (misses_known k name f g i from w q e) parts sites r alike.1)
 
-points_lack : (k : Link) (name : List ℕ) (f g : ℕ) (from to : Pt) → old_function k name ≡ Some f → new_function k name ≡ Some g →
-    not (has_point k.old (old_function k name) from && has_point k.new (new_function k name) to) ≡ not (is_some (place_of (function_of k.old f) from) && is_some (place_of (function_of k.new g) to))
-points_lack k name f g from to p q =
-    ap (λ o. not (has_point k.old o from && has_point k.new (new_function k name) to)) p ∙ ap (λ o. not (has_point k.old (Some f) from && has_point k.new o to)) q
+-- what fills their slots
+part_bad : (k : Link) (name : List ℕ) (f g : ℕ) → old_function k name ≡ Some f → new_function k name ≡ Some g → (p : Part) (s : Site) → StandsAt k g p s →
+    part_fills_badly k name p ≡ not (is_some (lifted_part k f s p.fills))
+part_bad k name f g w q p s a =
+    ap (λ o. list_any (λ x. not (can_fill k (reads_of k.old o None) (type_named (slots_of k.new (part_function k name p)) x.slot) x.expr)) p.fills) w
+    ∙ (ap (λ o. list_any (λ x. not (can_fill k (reads_slots k f) (type_named (slots_of k.new o) x.slot) x.expr)) p.fills) (part_named k name g q p.function ∙ a.0)
+    ∙ (fills_there k (reads_slots k f) (function_of k.new s.function).slots p.fills
+    ∙ ap not (mapped_some (λ xs. let y : LPart = record { function = s.function; place = s.place; fills = xs } in y)
+    (all_there (map (lifted_fill k (reads_slots k f) (function_of k.new s.function).slots) p.fills)))))
 
-fills_bad : (k : Link) (name : List ℕ) (f g : ℕ) (from to : Pt) (xs : List Fill) → old_function k name ≡ Some f → new_function k name ≡ Some g →
-    fills_badly k (n.Point name from to xs) ≡ not (is_some (all_there (map (lifted_fill k (reads_slots k f) (function_of k.new g).slots) xs)))
-fills_bad k name f g from to xs p q =
-    ap (λ o. list_any (λ x. not (can_fill k (reads_of k.old o None) (type_named (slots_of k.new (new_function k name)) x.slot) x.expr)) xs) p
-    ∙ (ap (λ o. list_any (λ x. not (can_fill k (reads_slots k f) (type_named (slots_of k.new o) x.slot) x.expr)) xs) q
-    ∙ fills_there k (reads_slots k f) (function_of k.new g).slots xs)
+parts_bad : (k : Link) (name : List ℕ) (f g : ℕ) (from : Pt) (parts : List Part) (sites : List Site) → old_function k name ≡ Some f → new_function k name ≡ Some g → AllZip (StandsAt k g) parts sites →
+    fills_badly k (n.Point name from parts) ≡ not (is_some (lifted_parts k f sites parts))
+parts_bad k name f g from parts sites w q r = zip_missing (StandsAt k g) (part_fills_badly k name) (λ x. lifted_part k f x.0 x.1.fills) (part_bad k name f g w q) parts sites r
 
-point_least : (k : Link) (earlier : List Entry) (name : List ℕ) (from to : Pt) (xs : List Fill) →
-    cause_of (chain k earlier (n.Point name from to xs)) ≡ least_cause k earlier (n.Point name from to xs)
-point_least k earlier name from to xs =
-    after_then (old_function k name) (match_at k.functions) c.UnknownFunction after_functions t (lacks_function k x) after_1 refl
-    (λ f g p q. after_both (place_of (function_of k.old f) from) (place_of (function_of k.new g) to) c.UnknownPoint (after_places f g) t (lacks_point k x) after_2
-    (points_lack k name f g from to p (matched f g p q)) (λ i m e w. at_places f g i m p (matched f g p q) e w))
+part_twice : (k : Link) (f g : ℕ) (p : Part) (x : LPart) → PartForm k f g p x → has_name_twice (map (λ z. z.slot) p.fills) ≡ is_twice_filled x
+part_twice k f g p x e =
+    twice_named (function_of k.new x.function).slots p.fills x.fills (fills_named k (reads_slots k f) (function_of k.new x.function).slots p.fills x.fills e.1)
+
+point_least : (k : Link) (earlier : List Entry) (name : List ℕ) (from : Pt) (parts : List Part) →
+    cause_of (chain k earlier (n.Point name from parts)) ≡ least_cause k earlier (n.Point name from parts)
+point_least k earlier name from parts =
+    after_all (old_function k name) (match_at k.functions) named c.UnknownFunction after_functions t (lacks_function k x) after_1
+    (λ e. ap (λ b. not b || list_any (λ p. not (is_some (part_function k name p))) parts) e)
+    (λ f g p q. functions_lack k name g from parts (matched f g p q))
+    (λ f g hs p q e. after_both (place_of (function_of k.old f) from) (sites_of k hs parts) c.UnknownPoint (after_places f) t (lacks_point k x) after_2
+    (points_lack k name f g from parts hs p (matched f g p q) (all_named g hs e))
+    (λ i sites d w. at_places f g i sites p (matched f g p q) d (sites_known k g parts hs sites (all_named g hs e) w)))
   where
     x : Entry
-    x = n.Point name from to xs
+    x = n.Point name from parts
 
     t : Bool
     t = list_any (clash x) earlier
 
     after_8 : Option EntryCause
-    after_8 = cond (t || has_name_twice (map (λ z. z.slot) xs)) (Some c.Twice) None
+    after_8 = cond (t || fills_twice x) (Some c.Twice) None
 
     after_4 : Option EntryCause
     after_4 = cond (fills_badly k x) (Some c.BadExpr) after_8
@@ -333,42 +409,46 @@ point_least k earlier name from to xs =
     after_1 : Option EntryCause
     after_1 = cond (lacks_point k x) (Some c.UnknownPoint) after_2
 
-    values : ℕ → ℕ → Option (List LFill)
-    values f g = all_there (map (lifted_fill k (reads_slots k f) (function_of k.new g).slots) xs)
+    named : ℕ → ℕ → Option (List ℕ)
+    named f g = all_there (map (λ p. function_in k g p.function) parts)
 
-    after_values : ℕ → ℕ → ℕ → List LFill → Result LEntry EntryCause
-    after_values f i m ys = refuse_if (has_twice (map (λ z. z.slot) ys)) c.Twice (Ok (l.Point f i m ys))
+    all_named : (g : ℕ) (hs : List ℕ) → named 0 g ≡ Some hs → Named k g parts hs
+    all_named g hs e = all_known (λ p h. function_in k g p.function ≡ Some h) (λ p. function_in k g p.function) (λ p h w. w) parts hs e
 
-    after_callee : ℕ → ℕ → ℕ → ℕ → Result LEntry EntryCause
-    after_callee f g i m = onward (ok_or (values f g) c.BadExpr) (after_values f i m)
+    after_values : ℕ → ℕ → List LPart → Result LEntry EntryCause
+    after_values f i xs = refuse_if (list_any is_twice_filled xs) c.Twice (Ok (l.Point f i xs))
 
-    after_kind : ℕ → ℕ → ℕ → ℕ → Result LEntry EntryCause
-    after_kind f g i m = refuse_if (callees_differ k (site f i) (site g m)) c.CalleeDiffers (after_callee f g i m)
+    after_callee : ℕ → ℕ → List Site → Result LEntry EntryCause
+    after_callee f i sites = onward (ok_or (lifted_parts k f sites parts) c.BadExpr) (after_values f i)
 
-    after_places : ℕ → ℕ → ℕ → ℕ → Result LEntry EntryCause
-    after_places f g i m = refuse_if (kinds_differ k (site f i) (site g m)) c.KindDiffers (after_kind f g i m)
+    after_kind : ℕ → ℕ → List Site → Result LEntry EntryCause
+    after_kind f i sites = refuse_if (callees_differ k (site f i) sites) c.CalleeDiffers (after_callee f i sites)
 
-    after_functions : ℕ → ℕ → Result LEntry EntryCause
-    after_functions f g = onward (ok_or (place_of (function_of k.old f) from) c.UnknownPoint) (λ i. onward (ok_or (place_of (function_of k.new g) to) c.UnknownPoint) (after_places f g i))
+    after_places : ℕ → ℕ → List Site → Result LEntry EntryCause
+    after_places f i sites = refuse_if (kinds_differ k (site f i) sites) c.KindDiffers (after_kind f i sites)
+
+    after_functions : ℕ → ℕ → List ℕ → Result LEntry EntryCause
+    after_functions f g hs = onward (ok_or (place_of (function_of k.old f) from) c.UnknownPoint) (λ i. onward (ok_or (sites_of k hs parts) c.UnknownPoint) (after_places f i))
 
     matched : (f g : ℕ) → old_function k name ≡ Some f → match_at k.functions f ≡ Some g → new_function k name ≡ Some g
     matched f g p q = ap (λ o. option_and_then (match_at k.functions) o) p ∙ q
 
-    at_values : (f g i m : ℕ) (ys : List LFill) → values f g ≡ Some ys → ends t (after_values f i m ys) ≡ after_8
-    at_values f g i m ys e =
-        twice_at_end (has_twice (map (λ z. z.slot) ys)) (has_name_twice (map (λ z. z.slot) xs)) t (l.Point f i m ys)
-        (twice_named (function_of k.new g).slots xs ys (fills_named k (reads_slots k f) (function_of k.new g).slots xs ys e))
+    at_values : (f g i : ℕ) (sites : List Site) (xs : List LPart) → AllZip (StandsAt k g) parts sites → lifted_parts k f sites parts ≡ Some xs → ends t (after_values f i xs) ≡ after_8
+    at_values f g i sites xs r e =
+        twice_at_end (list_any is_twice_filled xs) (fills_twice x) t (l.Point f i xs)
+        (zip_any (PartForm k f g) (λ p. has_name_twice (map (λ z. z.slot) p.fills)) is_twice_filled (part_twice k f g) parts xs (parts_known k f g parts sites xs r e))
 
-    at_places : (f g i m : ℕ) → old_function k name ≡ Some f → new_function k name ≡ Some g → place_of (function_of k.old f) from ≡ Some i → place_of (function_of k.new g) to ≡ Some m →
-        ends t (after_places f g i m) ≡ after_2
-    at_places f g i m p q e w =
-        after_test (kinds_differ k (site f i) (site g m)) c.KindDiffers (after_kind f g i m) t (differs_in_kind x) after_3 (call_known k f g i m from to e w)
-        (λ same. after_test (callees_differ k (site f i) (site g m)) c.CalleeDiffers (after_callee f g i m) t (differs_in_callee k x) after_4 (callee_known k name f g i m from to xs p q e w same)
-        (λ _. after_there (values f g) c.BadExpr (after_values f i m) t (fills_badly k x) after_8 (fills_bad k name f g from to xs p q) (λ ys r. at_values f g i m ys r)))
+    at_places : (f g i : ℕ) (sites : List Site) → old_function k name ≡ Some f → new_function k name ≡ Some g → place_of (function_of k.old f) from ≡ Some i → AllZip (StandsAt k g) parts sites →
+        ends t (after_places f i sites) ≡ after_2
+    at_places f g i sites p q d r =
+        after_test (kinds_differ k (site f i) sites) c.KindDiffers (after_kind f i sites) t (differs_in_kind x) after_3 (kinds_known k name f g i from parts sites d r)
+        (λ same. after_test (callees_differ k (site f i) sites) c.CalleeDiffers (after_callee f i sites) t (differs_in_callee k x) after_4 (callees_known k name f g i from parts sites p q d r same)
+        (λ _. after_there (lifted_parts k f sites parts) c.BadExpr (after_values f i) t (fills_badly k x) after_8 (parts_bad k name f g from parts sites p q r)
+        (λ xs e. at_values f g i sites xs r e)))
 
 pub chain_cause : (k : Link) (earlier : List Entry) (x : Entry) → cause_of (chain k earlier x) ≡ least_cause k earlier x
 chain_cause k earlier (n.Match i a b) = match_least k earlier i a b
 chain_cause k earlier (n.Field owner name x) = field_least k earlier owner name x
 chain_cause k earlier (n.Init name x) = init_least k earlier name x
-chain_cause k earlier (n.Point name from to xs) = point_least k earlier name from to xs
+chain_cause k earlier (n.Point name from parts) = point_least k earlier name from parts
 chain_cause k earlier (n.Check x) = check_least k earlier x

@@ -1,6 +1,7 @@
 -- of lists, names and places
 pub mod Sorting
 pub mod Numbers
+pub mod Beside
 -- the canonical order
 pub mod Kept
 -- of one entry that was lifted
@@ -12,6 +13,7 @@ pub mod AskedInOrder
 -- of all entries
 pub mod Known
 -- links
+pub mod Within
 pub mod LiftedLink
 pub mod OrderedLink
 -- soundness

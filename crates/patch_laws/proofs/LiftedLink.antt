@@ -59,7 +59,7 @@ pub one_claim : (k : Link) (kind : ℕ) (earlier : List Entry) (x : Entry) (y : 
 one_claim k kind earlier (n.Match i a b) y w free = match_claim k.old k.new kind i a b earlier y w free
 one_claim k kind earlier (n.Field owner name x) y w free = other_claim kind _ y (entry_form k (n.Field owner name x) y w).is refl
 one_claim k kind earlier (n.Init name x) y w free = other_claim kind _ y (entry_form k (n.Init name x) y w).is refl
-one_claim k kind earlier (n.Point f from to fills) y w free = other_claim kind _ y (entry_form k (n.Point f from to fills) y w).is refl
+one_claim k kind earlier (n.Point f from parts) y w free = other_claim kind _ y (entry_form k (n.Point f from parts) y w).is refl
 one_claim k kind earlier (n.Check x) y w free = other_claim kind _ y (entry_form k (n.Check x) y w).is refl
 
 pub claims_lifted : (k : Link) (kind i : ℕ) (earlier xs : List Entry) (es : List LEntry) → all_entries k i earlier xs ≡ Ok es → all_claims k.old k.new kind earlier xs ≡ claims kind es

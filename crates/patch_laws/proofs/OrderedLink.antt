@@ -24,7 +24,7 @@ pub claim_kept : (kind : ℕ) (x : LEntry) → claim_of kind (with_fills_in_orde
 claim_kept kind (l.Match i a b) = refl
 claim_kept kind (l.Field s i x) = refl
 claim_kept kind (l.Init g x) = refl
-claim_kept kind (l.Point f p q fills) = refl
+claim_kept kind (l.Point f p parts) = refl
 claim_kept kind (l.Check x) = refl
 
 -- and clashes with what it clashed with
@@ -33,11 +33,11 @@ first_clash (l.Match i a b) y = refl
 first_clash (l.Field s i x) y = refl
 first_clash (l.Init g x) y = refl
 first_clash (l.Check x) y = refl
-first_clash (l.Point f p q fills) (l.Match i a b) = refl
-first_clash (l.Point f p q fills) (l.Field s i x) = refl
-first_clash (l.Point f p q fills) (l.Init g x) = refl
-first_clash (l.Point f p q fills) (l.Point g r s others) = refl
-first_clash (l.Point f p q fills) (l.Check x) = refl
+first_clash (l.Point f p parts) (l.Match i a b) = refl
+first_clash (l.Point f p parts) (l.Field s i x) = refl
+first_clash (l.Point f p parts) (l.Init g x) = refl
+first_clash (l.Point f p parts) (l.Point g r others) = refl
+first_clash (l.Point f p parts) (l.Check x) = refl
 
 pub clash_kept : (x y : LEntry) → numbers_clash (with_fills_in_order x) (with_fills_in_order y) ≡ numbers_clash x y
 clash_kept x y =
@@ -105,7 +105,7 @@ match_known kind i (l.Match j a b) c e = pick (j == kind) refl e where
   pick true g e = here (is_number (Some a) i && true) refl g e
 match_known kind i (l.Field s j x) c e = absurd (none-some c e)
 match_known kind i (l.Init g x) c e = absurd (none-some c e)
-match_known kind i (l.Point f p q fills) c e = absurd (none-some c e)
+match_known kind i (l.Point f p parts) c e = absurd (none-some c e)
 match_known kind i (l.Check x) c e = absurd (none-some c e)
 
 matches_clash : (kind i : ℕ) (x y : LEntry) (c d : Claim) → find (λ c. is_number c.old i && c.stands) (claim_of kind x) ≡ Some c → find (λ c. is_number c.old i && c.stands) (claim_of kind y) ≡ Some d →

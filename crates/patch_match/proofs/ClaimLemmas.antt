@@ -66,7 +66,7 @@ claims_old old new kind i acc (x ∷ rest) =
       one (n.Match j a b) = some j a b (j == kind) _ refl
       one (n.Field a b e) = refl
       one (n.Init a e) = refl
-      one (n.Point a p q fs) = refl
+      one (n.Point a p parts) = refl
       one (n.Check e) = refl
 
 claims_new : (old new : Lifted) (kind i : ℕ) (acc es : List Entry) → list_any (λ c. is_number c.new i) (all_claims old new kind acc es) ≡ list_any (names_new new kind i) es
@@ -84,7 +84,7 @@ claims_new old new kind i acc (x ∷ rest) =
       one (n.Match j a b) = some b (j == kind) _ refl
       one (n.Field a b e) = refl
       one (n.Init a e) = refl
-      one (n.Point a p q fs) = refl
+      one (n.Point a p parts) = refl
       one (n.Check e) = refl
 
 -- a test of numbers is the same either way
@@ -104,7 +104,7 @@ no_side kind a old i e (n.Match j x y) = ap (λ t. t && (is_same_name a x || fal
   pick false = refl
 no_side kind a old i e (n.Field x y z) = refl
 no_side kind a old i e (n.Init x y) = refl
-no_side kind a old i e (n.Point x p q fs) = refl
+no_side kind a old i e (n.Point x p parts) = refl
 no_side kind a old i e (n.Check x) = refl
 
 two_sides : (kind : ℕ) (a b : List ℕ) (old new : Lifted) (i j : ℕ) → find_name a (names_in old kind) ≡ Some i → find_name b (names_in new kind) ≡ Some j →
@@ -120,7 +120,7 @@ two_sides kind a b old new i j e f (n.Match k x y) = ap (λ t. t && (is_same_nam
   pick false = refl
 two_sides kind a b old new i j e f (n.Field x y z) = refl
 two_sides kind a b old new i j e f (n.Init x y) = refl
-two_sides kind a b old new i j e f (n.Point x p q fs) = refl
+two_sides kind a b old new i j e f (n.Point x p parts) = refl
 two_sides kind a b old new i j e f (n.Check x) = refl
 
 -- what is said of an old thing tells whether an entry names it

@@ -147,7 +147,7 @@ fn note_entry(named: &mut Sides, kind: u8, old: &Tables<'_>, new: &Tables<'_>, e
         }
         Entry::Field(_, _, _) => return,
         Entry::Init(_, _) => return,
-        Entry::Point(_, _, _, _) => return,
+        Entry::Point(_, _, _) => return,
         Entry::Check(_) => return,
     }
 }

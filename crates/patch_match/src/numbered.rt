@@ -26,7 +26,7 @@ fn note_entry(named: &mut Sides, kind: u8, entry: &LEntry)
         }
         LEntry::Field(_, _, _) => return,
         LEntry::Init(_, _) => return,
-        LEntry::Point(_, _, _, _) => return,
+        LEntry::Point(_, _, _) => return,
         LEntry::Check(_) => return,
     }
 }
