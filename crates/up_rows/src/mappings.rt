@@ -81,6 +81,7 @@ int main(void) {
 ";
 
 /// The patches from one program to another, by the mapping that is the text of a row.
+#[derive(Clone, Copy)]
 struct Mapped<'a> {
     old: &'a str,
     new: &'a str,

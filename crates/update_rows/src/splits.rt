@@ -65,7 +65,7 @@ c 1050 2
 b 300
 a 30
 f 3 4
-err: end exit 0 steps 19 target - update done
+err: end exit 0 steps 24 target - update done
 status 0
 ",
         events: "",
@@ -76,7 +76,7 @@ status 0
         words: "--at 6 --steps 30",
         plan: "",
         wanted: r"
-err: end limit steps 30 target - update refused: slot thread 0 frame 1 f loop 1 x divide
+err: end limit steps 30 target - update refused: slot thread 0 frame 1 x divide
 status 8
 ",
         events: "",
@@ -87,7 +87,7 @@ status 8
         words: "--at 6 --steps 30",
         plan: "",
         wanted: r"
-err: end limit steps 30 target - update refused: slot thread 0 frame 1 f loop 1 k divide
+err: end limit steps 30 target - update refused: slot thread 0 frame 1 k divide
 status 8
 ",
         events: "",
@@ -106,7 +106,7 @@ point work loop 1 -> loop 1;
         plan: "",
         wanted: r"
 new 5
-err: end exit 0 steps 27 target - update done
+err: end exit 0 steps 24 target - update done
 status 0
 ",
         events: "",
