@@ -325,10 +325,10 @@ counts_apart = record {
   globals = counted;
   mutexes = [];
   functions =
-    int_function (codes "go") (slot (codes "k") ty.Int ∷ [])
+      int_function (codes "go") (slot (codes "k") ty.Int ∷ [])
       (t.Loop [] (l.Bin bin.Lt (l.Global 0) (l.Slot 0)) (up_by_one 0 ∷ print_of (codes "new %d\n") (l.Global 0) ∷ []) [] ∷ t.Return (Some (l.Global 0)) ∷ [])
-    ∷ record { name = codes "main"; ret = ty.Int; params = 0; slots = r_slot ∷ []; body = t.Call (Some 0) 0 (num 4 ∷ []) ∷ t.Return (Some (l.Slot 0)) ∷ [] }
-    ∷ [];
+      ∷ record { name = codes "main"; ret = ty.Int; params = 0; slots = r_slot ∷ []; body = t.Call (Some 0) 0 (num 4 ∷ []) ∷ t.Return (Some (l.Slot 0)) ∷ [] }
+      ∷ [];
   main = 1;
 }
 
