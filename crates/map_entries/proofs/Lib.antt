@@ -5,4 +5,6 @@ pub mod TypeLemmas
 pub mod NumberLemmas
 pub mod SuitLemmas
 pub mod TwiceLemmas
+pub mod PartLemmas
+mod PointOfLemmas
 mod AloneLemmas

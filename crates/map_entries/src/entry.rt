@@ -1,18 +1,18 @@
 //! One entry of a mapping by numbers, or its least cause.
 
-ghost use Rattle.std.specs.Prelude.{◌≡◌, []};
+ghost use Rattle.std.specs.Prelude.{◌≡◌, [], map};
 ghost use Rattle.c_tree.specs.Entries as spec;
 ghost use Rattle.c_tree.specs.Chain as chain;
 ghost use Rattle.map_entries.specs.Gives.{Gives};
 ghost use Rattle.map_entries.specs.Rest as rest;
 
-use crate::fill::{has_twice, lifted_fills};
 use crate::fits::{fields_read, filling, scalar_asked, slot_asked, testing};
+use crate::part::{functions_of, lifted_parts, sites_in, some_fills_twice};
 use crate::points::PointTable;
 use crate::reads::Reads;
 use crate::refused::EntryRefused;
 use crate::site::{Site, callees_differ, kinds_differ};
-use c_tree::{Entry, EntryCause, Expr, Fill, LEntry, Name, Pt};
+use c_tree::{Entry, EntryCause, Expr, LEntry, Name, Part, Pt};
 use patch_match::{Link, lifted_match};
 use std::alloc::Global;
 
@@ -64,17 +64,18 @@ fn filled_point(
     alloc: Global,
     k: &Link<'_>,
     from: Site,
-    to: Site,
-    fills: &[Fill],
+    sites: &[Site],
+    parts: &[Part],
 ) -> Result<LEntry, EntryRefused>
-    ensures { Gives result (rest.filled_point k.now from to fills.now) }
+    ensures { Gives result
+        (rest.filled_point k.now (rest.seen from) (map rest.seen sites.now) parts.now) }
 {
-    let lifted = lifted_fills(alloc, k, from.function, to.function, fills)?;
-    let fills = lifted.ok_or(EntryCause::BadExpr)?;
-    if has_twice(alloc, fills.as_slice())? {
+    let lifted = lifted_parts(alloc, k, from.function, sites, parts)?;
+    let parts = lifted.ok_or(EntryCause::BadExpr)?;
+    if some_fills_twice(alloc, parts.as_slice())? {
         return Err(EntryRefused::Cause(EntryCause::Twice));
     }
-    Ok(LEntry::Point(from.function, from.place, to.place, fills))
+    Ok(LEntry::Point(from.function, from.place, parts))
 }
 
 /// A point whose places are there.
@@ -84,23 +85,48 @@ fn point_between(
     old: &PointTable<'_>,
     new: &PointTable<'_>,
     from: Site,
-    to: Site,
-    fills: &[Fill],
+    sites: &[Site],
+    parts: &[Part],
 ) -> Result<LEntry, EntryRefused>
     requires old { old.now ≡ k.now.old }
     requires new { new.now ≡ k.now.new }
-    ensures { Gives result (rest.point_between k.now from to fills.now) }
+    ensures { Gives result
+        (rest.point_between k.now (rest.seen from) (map rest.seen sites.now) parts.now) }
 {
-    if kinds_differ(k, old, new, from, to) {
+    if kinds_differ(k, old, new, from, sites) {
         return Err(EntryRefused::Cause(EntryCause::KindDiffers));
     }
-    if callees_differ(k, old, new, from, to) {
+    if callees_differ(k, old, new, from, sites) {
         return Err(EntryRefused::Cause(EntryCause::CalleeDiffers));
     }
-    filled_point(alloc, k, from, to, fills)
+    filled_point(alloc, k, from, sites, parts)
 }
 
-/// A place that is mapped, with what fills its slots.
+/// A point from an old function, the numbers of whose parts' functions are there.
+fn point_of(
+    alloc: Global,
+    k: &Link<'_>,
+    old: &PointTable<'_>,
+    new: &PointTable<'_>,
+    f: u32,
+    from: Pt,
+    functions: &[u32],
+    parts: &[Part],
+) -> Result<LEntry, EntryRefused>
+    requires old { old.now ≡ k.now.old }
+    requires new { new.now ≡ k.now.new }
+    ensures { Gives result (rest.point_of k.now f from functions.now parts.now) }
+{
+    let n = old.place_of(f, from).ok_or(EntryCause::UnknownPoint)?;
+    let sites = sites_in(alloc, new, functions, parts)?.ok_or(EntryCause::UnknownPoint)?;
+    let from = Site {
+        function: f,
+        place: n,
+    };
+    point_between(alloc, k, old, new, from, sites.as_slice(), parts)
+}
+
+/// A place that is mapped, with its parts.
 fn lifted_point(
     alloc: Global,
     k: &Link<'_>,
@@ -108,26 +134,25 @@ fn lifted_point(
     new: &PointTable<'_>,
     name: &Name,
     from: Pt,
-    to: Pt,
-    fills: &[Fill],
+    parts: &[Part],
 ) -> Result<LEntry, EntryRefused>
     requires old { old.now ≡ k.now.old }
     requires new { new.now ≡ k.now.new }
-    ensures { Gives result (chain.lifted_point k.now name.now from to fills.now) }
+    ensures { Gives result (chain.lifted_point k.now name.now from parts.now) }
 {
     let f = k.old().number(0, name).ok_or(EntryCause::UnknownFunction)?;
     let g = k.function(f).ok_or(EntryCause::UnknownFunction)?;
-    let n = old.place_of(f, from).ok_or(EntryCause::UnknownPoint)?;
-    let m = new.place_of(g, to).ok_or(EntryCause::UnknownPoint)?;
-    let from = Site {
-        function: f,
-        place: n,
-    };
-    let to = Site {
-        function: g,
-        place: m,
-    };
-    point_between(alloc, k, old, new, from, to, fills)
+    let functions = functions_of(alloc, k, g, parts)?.ok_or(EntryCause::UnknownFunction)?;
+    point_of(
+        alloc,
+        k,
+        old,
+        new,
+        f,
+        from,
+        functions.as_slice(),
+        parts,
+    )
 }
 
 /// An entry of a mapping by numbers, or its least cause, where no entry comes before it. The link
@@ -147,8 +172,8 @@ pub fn lifted_entry(
         Entry::Match(kind, a, b) => match_entry(k, *kind, a, b),
         Entry::Field(owner, name, x) => lifted_field(alloc, k, owner, name, x),
         Entry::Init(name, x) => lifted_init(alloc, k, name, x),
-        Entry::Point(f, from, to, fills) => {
-            lifted_point(alloc, k, old, new, f, *from, *to, fills.as_slice())
+        Entry::Point(f, from, parts) => {
+            lifted_point(alloc, k, old, new, f, *from, parts.as_slice())
         }
         Entry::Check(x) => lifted_check(alloc, k, x),
     }

@@ -1,4 +1,4 @@
-//! What fills the slots of a function at a point.
+//! What fills the slots of a part.
 
 ghost use Rattle.std.specs.Prelude.{◌≡◌, map, IfOk};
 ghost use Rattle.c_tree.specs.Step.{function_of};

@@ -13,6 +13,7 @@ mod member;
 mod names;
 mod numbers;
 mod operator;
+mod part;
 mod points;
 mod reads;
 mod refused;

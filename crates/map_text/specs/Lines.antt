@@ -11,10 +11,6 @@ use Rattle.c_tree.specs.Canonical.{point_text, entry_text}
 abbrev pub from : Lifted → ℕ → ℕ → List ℕ
 from p f n = codes "point " ++ (function_of p f).name ++ 32 ∷ point_text (point_of (function_of p f) n)
 
--- the new side of a point
-abbrev pub to : Lifted → ℕ → ℕ → List ℕ
-to p f n = codes " -> " ++ point_text (point_of (function_of p f) n)
-
 -- the line of an entry
 abbrev pub line : Link → LEntry → List ℕ
 line k x = entry_text k x ++ 59 ∷ 10 ∷ []

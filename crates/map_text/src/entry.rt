@@ -5,11 +5,12 @@ ghost use Rattle.c_tree.specs.declared.mapping.LEntry.TheVariants as form;
 ghost use Rattle.c_tree.specs.Canonical as spec;
 ghost use Rattle.map_text.specs.Lines as words;
 
-use crate::fills::{append_expr, append_fills};
+use crate::fills::append_expr;
 use crate::names::name_at;
+use crate::part::append_parts;
 use crate::points::Points;
 use crate::programs::Programs;
-use c_tree::{LEntry, LExpr, LFill, function_name, slot_name};
+use c_tree::{LEntry, LExpr, LPart, function_name, slot_name};
 use patch_match::{Link, Tables};
 use std::alloc::{AllocError, Global};
 
@@ -92,13 +93,6 @@ fn append_init(
     append_expr(alloc, old, None, None, expr, out)
 }
 
-/// The match of an old function, or the first one.
-fn matched_function(link: &Link<'_>, function: u32) -> u32
-    ensures { result ≡ spec.matched_function link.now function }
-{
-    link.function(function).unwrap_or(0)
-}
-
 /// Appends the old side of a point.
 fn append_from(
     old: &Points<'_>,
@@ -114,37 +108,20 @@ fn append_from(
     old.append(function, place, out)
 }
 
-/// Appends the new side of a point.
-fn append_to(
-    new: &Points<'_>,
-    function: u32,
-    place: u32,
-    out: &mut Vec<u8>,
-) -> Result<(), AllocError>
-    ensures { OnOk result (out.new.items ≡ out.old.items ++ words.to new.now function place) }
-{
-    out.extend_from_slice(b" -> ")?;
-    new.append(function, place, out)
-}
-
 fn append_point(
     alloc: Global,
     programs: &Programs<'_>,
     function: u32,
-    old: u32,
-    new: u32,
-    fills: &[LFill],
+    place: u32,
+    parts: &[LPart],
     out: &mut Vec<u8>,
 ) -> Result<(), AllocError>
     ensures { OnOk result (out.new.items ≡ out.old.items
-        ++ spec.entry_text programs.now (form.Point function old new fills.now)) }
+        ++ spec.entry_text programs.now (form.Point function place parts.now)) }
 {
-    let link = programs.link();
-    let matched = matched_function(link, function);
-    let slots = link.new().slots(matched);
-    append_from(programs.old(), function, old, out)?;
-    append_to(programs.new(), matched, new, out)?;
-    append_fills(alloc, link.old().program(), function, slots, fills, out)
+    append_from(programs.old(), function, place, out)?;
+    out.extend_from_slice(b" -> ")?;
+    append_parts(alloc, programs, function, parts, out)
 }
 
 fn append_check(
@@ -178,16 +155,8 @@ pub fn append_entry(
             append_field(alloc, link, *owner, *field, expr, out)
         }
         LEntry::Init(global, expr) => append_init(alloc, link, *global, expr, out),
-        LEntry::Point(function, old, new, fills) => {
-            append_point(
-                alloc,
-                programs,
-                *function,
-                *old,
-                *new,
-                fills.as_slice(),
-                out,
-            )
+        LEntry::Point(function, place, parts) => {
+            append_point(alloc, programs, *function, *place, parts.as_slice(), out)
         }
         LEntry::Check(expr) => append_check(alloc, link, expr, out),
     }

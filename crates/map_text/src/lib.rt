@@ -8,6 +8,7 @@
 mod entry;
 mod fills;
 mod names;
+mod part;
 mod points;
 mod programs;
 mod text;

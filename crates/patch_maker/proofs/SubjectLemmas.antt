@@ -33,36 +33,36 @@ clash_is (l.Match i a None) (l.Match j x None) = old_side (i == j) (a == x)
 clash_is (l.Match i a None) (l.Match j x (Some y)) = old_side (i == j) (a == x)
 clash_is (l.Match i a None) (l.Field owner f e) = refl
 clash_is (l.Match i a None) (l.Init g e) = refl
-clash_is (l.Match i a None) (l.Point f n m fills) = refl
+clash_is (l.Match i a None) (l.Point f n parts) = refl
 clash_is (l.Match i a None) (l.Check e) = refl
 clash_is (l.Match i a (Some b)) (l.Match j x None) = old_side (i == j) (a == x)
 clash_is (l.Match i a (Some b)) (l.Match j x (Some y)) = both_sides (i == j) (a == x) (b == y)
 clash_is (l.Match i a (Some b)) (l.Field owner f e) = refl
 clash_is (l.Match i a (Some b)) (l.Init g e) = refl
-clash_is (l.Match i a (Some b)) (l.Point f n m fills) = refl
+clash_is (l.Match i a (Some b)) (l.Point f n parts) = refl
 clash_is (l.Match i a (Some b)) (l.Check e) = refl
 clash_is (l.Field s i e) (l.Match j x None) = refl
 clash_is (l.Field s i e) (l.Match j x (Some y)) = refl
 clash_is (l.Field s i e) (l.Field t j d) = alone (s == t && i == j)
 clash_is (l.Field s i e) (l.Init g d) = refl
-clash_is (l.Field s i e) (l.Point f n m fills) = refl
+clash_is (l.Field s i e) (l.Point f n parts) = refl
 clash_is (l.Field s i e) (l.Check d) = refl
 clash_is (l.Init g e) (l.Match j x None) = refl
 clash_is (l.Init g e) (l.Match j x (Some y)) = refl
 clash_is (l.Init g e) (l.Field t j d) = refl
 clash_is (l.Init g e) (l.Init h d) = alone (g == h)
-clash_is (l.Init g e) (l.Point f n m fills) = refl
+clash_is (l.Init g e) (l.Point f n parts) = refl
 clash_is (l.Init g e) (l.Check d) = refl
-clash_is (l.Point f n m fills) (l.Match j x None) = refl
-clash_is (l.Point f n m fills) (l.Match j x (Some y)) = refl
-clash_is (l.Point f n m fills) (l.Field t j d) = refl
-clash_is (l.Point f n m fills) (l.Init g d) = refl
-clash_is (l.Point f n m fills) (l.Point g p q others) = alone (f == g && n == p)
-clash_is (l.Point f n m fills) (l.Check d) = refl
+clash_is (l.Point f n parts) (l.Match j x None) = refl
+clash_is (l.Point f n parts) (l.Match j x (Some y)) = refl
+clash_is (l.Point f n parts) (l.Field t j d) = refl
+clash_is (l.Point f n parts) (l.Init g d) = refl
+clash_is (l.Point f n parts) (l.Point g p others) = alone (f == g && n == p)
+clash_is (l.Point f n parts) (l.Check d) = refl
 clash_is (l.Check e) (l.Match j x b) = refl
 clash_is (l.Check e) (l.Field t j d) = refl
 clash_is (l.Check e) (l.Init g d) = refl
-clash_is (l.Check e) (l.Point f n m fills) = refl
+clash_is (l.Check e) (l.Point f n parts) = refl
 clash_is (l.Check e) (l.Check d) = refl
 
 -- so does one of many

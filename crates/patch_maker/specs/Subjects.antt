@@ -19,7 +19,7 @@ abbrev pub first_subject : LEntry → Option Subject
 first_subject (l.Match kind i j) = Some (s.OldSide kind i)
 first_subject (l.Field owner i x) = Some (s.Field owner i)
 first_subject (l.Init g x) = Some (s.Global g)
-first_subject (l.Point f n m fills) = Some (s.Place f n)
+first_subject (l.Point f n parts) = Some (s.Place f n)
 first_subject (l.Check x) = None
 
 -- a match entry is about its new side too

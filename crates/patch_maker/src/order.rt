@@ -4,7 +4,7 @@ ghost use Rattle.std.specs.Prelude.{◌≡◌, map, IfOk};
 ghost use Rattle.c_tree.specs.Canonical as spec;
 ghost use Rattle.patch_maker.specs.Order.{numbers_of};
 
-use c_tree::{LEntry, LFill, Row};
+use c_tree::{LEntry, LFill, LPart, Row};
 use std::alloc::{AllocError, Global};
 
 /// Where an entry stands: its group, and two numbers within the group.
@@ -17,7 +17,7 @@ fn key_of(entry: &LEntry) -> Key
         LEntry::Match(kind, old, _) => (*kind, *old, 0),
         LEntry::Field(owner, field, _) => (4, *owner, *field),
         LEntry::Init(global, _) => (5, *global, 0),
-        LEntry::Point(function, place, _, _) => (6, *function, *place),
+        LEntry::Point(function, place, _) => (6, *function, *place),
         LEntry::Check(_) => (7, 0, 0),
     }
 }
@@ -30,12 +30,38 @@ fn fills_in_order(fills: Row<LFill>) -> Result<Row<LFill>, AllocError>
     Ok(Row::from_vec(fills))
 }
 
-fn with_fills_in_order(entry: LEntry) -> Result<LEntry, AllocError>
+fn part_in_order(part: LPart) -> Result<LPart, AllocError>
+    ensures { IfOk result (λ p. p ≡ spec.part_in_order part) }
+{
+    let LPart {
+        function,
+        place,
+        fills,
+    } = part;
+    Ok(LPart {
+        function,
+        place,
+        fills: fills_in_order(fills)?,
+    })
+}
+
+/// The parts of a point, with the slots of each in order.
+fn parts_in_order(alloc: Global, parts: Row<LPart>) -> Result<Row<LPart>, AllocError>
+    ensures { IfOk result (λ r. r ≡ map spec.part_in_order parts) }
+{
+    let mut made = Vec::new(alloc);
+    for part in parts.into_vec() {
+        made.push(part_in_order(part)?)?;
+    }
+    Ok(Row::from_vec(made))
+}
+
+fn with_fills_in_order(alloc: Global, entry: LEntry) -> Result<LEntry, AllocError>
     ensures { IfOk result (λ e. e ≡ spec.with_fills_in_order entry) }
 {
     match entry {
-        LEntry::Point(function, from, to, fills) => {
-            Ok(LEntry::Point(function, from, to, fills_in_order(fills)?))
+        LEntry::Point(function, place, parts) => {
+            Ok(LEntry::Point(function, place, parts_in_order(alloc, parts)?))
         }
         LEntry::Match(_, _, _) => Ok(entry),
         LEntry::Field(_, _, _) => Ok(entry),
@@ -49,7 +75,7 @@ fn all_with_fills_in_order(alloc: Global, entries: Vec<LEntry>) -> Result<Vec<LE
 {
     let mut made = Vec::new(alloc);
     for entry in entries {
-        made.push(with_fills_in_order(entry)?)?;
+        made.push(with_fills_in_order(alloc, entry)?)?;
     }
     Ok(made)
 }

@@ -35,7 +35,7 @@ fn first_subject(entry: &LEntry) -> Option<Subject>
         LEntry::Match(kind, old, _) => Some(Subject::OldSide(*kind, *old)),
         LEntry::Field(owner, field, _) => Some(Subject::Field(*owner, *field)),
         LEntry::Init(global, _) => Some(Subject::Global(*global)),
-        LEntry::Point(function, place, _, _) => Some(Subject::Place(*function, *place)),
+        LEntry::Point(function, place, _) => Some(Subject::Place(*function, *place)),
         LEntry::Check(_) => None,
     }
 }
@@ -49,7 +49,7 @@ fn second_subject(entry: &LEntry) -> Option<Subject>
         LEntry::Match(_, _, None) => None,
         LEntry::Field(_, _, _) => None,
         LEntry::Init(_, _) => None,
-        LEntry::Point(_, _, _, _) => None,
+        LEntry::Point(_, _, _) => None,
         LEntry::Check(_) => None,
     }
 }

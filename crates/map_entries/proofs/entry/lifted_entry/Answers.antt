@@ -1,5 +1,5 @@
 use Rattle.std.proofs.Common.{List, subst}
-use Rattle.c_tree.specs.declared.mapping.Fill.{Fill}
+use Rattle.c_tree.specs.declared.mapping.Part.{Part}
 use Rattle.c_tree.specs.Chain.{lifted_point}
 use Rattle.map_entries.specs.Gives.{Gives}
 use Rattle.map_entries.proofs.AloneLemmas.{alone}
@@ -17,7 +17,7 @@ returns-in-Init c = alone c.args.k.now c.args.entry.now _ _ c.in-Init.is c.lifte
 pub returns-in-Point : goal.returns-in-Point
 returns-in-Point c =
     alone c.args.k.now c.args.entry.now _ _ c.in-Point.is
-    (subst (λ (fills : List Fill). Gives c.lifted_point.result (lifted_point c.args.k.now c.in-Point.f c.in-Point.from c.in-Point.to fills)) c.as_slice.ensures c.lifted_point.ensures)
+    (subst (λ (parts : List Part). Gives c.lifted_point.result (lifted_point c.args.k.now c.in-Point.f c.in-Point.from parts)) c.as_slice.ensures c.lifted_point.ensures)
 
 pub returns-in-Check : goal.returns-in-Check
 returns-in-Check c = alone c.args.k.now c.args.entry.now _ _ c.in-Check.is c.lifted_check.ensures
