@@ -111,12 +111,12 @@ checks-names s i (n.Point a b c ∷ rest) = checks-names s i rest
 refusal-names : (k : Link) (entries : List LEntry) (s : State) → NamesIn (refusal k entries s)
 refusal-names k entries s =
     first-names (
-      first_some (all_unmapped k entries 0 s.threads)
-      ∷ first_some (all_deep k entries 0 s.threads)
-      ∷ held k 0 s.mutexes
-      ∷ removed k 1 s.heap.objects
-      ∷ first_some (failed_checks s 1 entries)
-      ∷ []
+    first_some (all_unmapped k entries 0 s.threads)
+    ∷ first_some (all_deep k entries 0 s.threads)
+    ∷ held k 0 s.mutexes
+    ∷ removed k 1 s.heap.objects
+    ∷ first_some (failed_checks s 1 entries)
+    ∷ []
     ) (
       first-names (all_unmapped k entries 0 s.threads) (all_unmapped-names k entries 0 s.threads),
       (
