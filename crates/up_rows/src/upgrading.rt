@@ -44,7 +44,7 @@ end
 const WRITTEN: &str = r#"
 ok bytes 246
 status 0
-file q
+file p
 upstare-patch 2
 old 88
 int n; int main(void) { while (n < 4) { n = n + 1; printf("old %d\n", n); } return 0; }
@@ -58,13 +58,13 @@ end
 /// What each call comes to.
 #[rattlefmt::skip]
 const ROWS: &[CallRow<'static>] = &[
-    ("from format 1", "upgrade p -o q", &[("p", FIRST)], WRITTEN),
-    ("from format 2", "upgrade p -o q", &[("p", SECOND)], WRITTEN),
-    ("over a file that is there", "upgrade p -o q", &[("p", FIRST), ("q", "old")], WRITTEN),
-    ("a frame that becomes two", "upgrade p -o q", &[("p", SPLIT)], r#"
+    ("from format 1", "upgrade q -o p", &[("q", FIRST)], WRITTEN),
+    ("from format 2", "upgrade q -o p", &[("q", SECOND)], WRITTEN),
+    ("over a file that is there", "upgrade q -o p", &[("q", FIRST), ("p", "old")], WRITTEN),
+    ("a frame that becomes two", "upgrade q -o p", &[("q", SPLIT)], r#"
 ok bytes 316
 status 0
-file q
+file p
 upstare-patch 2
 old 88
 int n; int main(void) { while (n < 4) { n = n + 1; printf("old %d\n", n); } return 0; }
@@ -82,12 +82,12 @@ new 4
 err: end exit 0 steps 19 target - update done
 status 0
 "),
-    ("no patch", "upgrade p -o q", &[("p", "upstare")], "err: patch p at 7: short\nstatus 3\n"),
-    ("another format", "upgrade p -o q", &[("p", "upstare-patch 3\n")],
-     "err: patch p at 14: bad head\nstatus 3\n"),
-    ("no file", "upgrade x -o q", &[("p", FIRST)], "err: cannot read x\nstatus 4\n"),
-    ("no file for the output", "upgrade p", &[("p", FIRST)], "err: usage\nstatus 1\n"),
-    ("two files", "upgrade p p -o q", &[("p", FIRST)], "err: usage\nstatus 1\n"),
+    ("no patch", "upgrade q -o p", &[("q", "upstare")], "err: patch q at 7: short\nstatus 3\n"),
+    ("another format", "upgrade q -o p", &[("q", "upstare-patch 3\n")],
+     "err: patch q at 14: bad head\nstatus 3\n"),
+    ("no file", "upgrade x -o p", &[("q", FIRST)], "err: cannot read x\nstatus 4\n"),
+    ("no file for the output", "upgrade q", &[("q", FIRST)], "err: usage\nstatus 1\n"),
+    ("two files", "upgrade q q -o p", &[("q", FIRST)], "err: usage\nstatus 1\n"),
     ("no words", "upgrade", &[], "err: usage\nstatus 1\n"),
 ];
 
@@ -99,14 +99,14 @@ fn patches_are_upgraded(rt: HostRuntime) -> Result<(), RowsDiffer> {
 /// Accesses that fail.
 #[rattlefmt::skip]
 const FAULTS: &[FaultRow<'static>] = &[
-    ("the read fails", "upgrade p -o q",
+    ("the read fails", "upgrade q -o p",
      Faults { file: Some(0), ..Faults::NONE },
-     &[("p", FIRST)],
-     "err: cannot read p\nstatus 4\n"),
-    ("the write fails", "upgrade p -o q",
+     &[("q", FIRST)],
+     "err: cannot read q\nstatus 4\n"),
+    ("the write fails", "upgrade q -o p",
      Faults { file: Some(1), ..Faults::NONE },
-     &[("p", FIRST)],
-     "err: cannot write q\nstatus 5\n"),
+     &[("q", FIRST)],
+     "err: cannot write p\nstatus 5\n"),
 ];
 
 #[test]
