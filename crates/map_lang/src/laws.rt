@@ -6,7 +6,7 @@ ghost use Rattle.map_lang.specs.Answered.{EachIsAnswered};
 ghost use Rattle.map_lang.specs.Formats.{FirstMappingsAreMappings, MappingsOfOnePartAreFirst};
 ghost use Rattle.map_lang.specs.Formed.{EachMappingHasTheForm, EachFirstMappingHasTheForm};
 
-/// That each text is exactly one mapping or has exactly one first fault, and so in the first format.
+/// That each text is exactly one mapping or has exactly one first fault, in the first format too.
 pub fn each_mapping_has_one_answer()
     ensures some { EachIsAnswered map_start }
     ensures one { OneMapAnswer map_start }

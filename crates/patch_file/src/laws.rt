@@ -9,8 +9,8 @@ use patch_form::no_text_has_two_answers;
 use read_back::canonical_text_reads_back;
 
 /// Bytes are the file of one whole patch, or are refused at one offset for one cause, and not both.
-/// So what `write_patch` makes of a whole patch, `read_patch` reads as that patch; and the same bytes
-/// in format 1 too, where each point of the patch has one part.
+/// So what `write_patch` makes of a whole patch, `read_patch` reads as that patch; and the same
+/// bytes in format 1 too, where each point of the patch has one part.
 pub fn bytes_have_one_answer()
     ensures { laws.OneAnswer }
 {

@@ -5,7 +5,8 @@
 //! arrays, `input` what they read, `threads` several threads, `histories` files of histories and
 //! schedules, `mappings` what comes of a mapping, `patches` the command `patch`, `patch_files`
 //! bytes that are no patch, `transforming` transformed programs, `loading` the command `load`,
-//! `upgrading` the command `upgrade`, `faults` accesses that fail, `usage` the words; `tables` shows how a table is read.
+//! `upgrading` the command `upgrade`, `faults` accesses that fail, `usage` the words; `tables`
+//! shows how a table is read.
 #![tactic(auto)]
 
 #[cfg(test)]

@@ -34,7 +34,9 @@ upstare-patch 2
 old 88
 int n; int main(void) { while (n < 4) { n = n + 1; printf("old %d\n", n); } return 0; }
 new 134
-int n; int go(int k) { while (n < k) { n = n + 1; printf("new %d\n", n); } return n; } int main(void) { int r; r = go(4); return r; }
+int n;
+int go(int k) { while (n < k) { n = n + 1; printf("new %d\n", n); } return n; }
+int main(void) { int r; r = go(4); return r; }
 map 52
 point main loop 1 -> call 1 + go loop 1 { k = 4; };
 end
@@ -69,7 +71,9 @@ upstare-patch 2
 old 88
 int n; int main(void) { while (n < 4) { n = n + 1; printf("old %d\n", n); } return 0; }
 new 134
-int n; int go(int k) { while (n < k) { n = n + 1; printf("new %d\n", n); } return n; } int main(void) { int r; r = go(4); return r; }
+int n;
+int go(int k) { while (n < k) { n = n + 1; printf("new %d\n", n); } return n; }
+int main(void) { int r; r = go(4); return r; }
 map 52
 point main loop 1 -> call 1 + go loop 1 { k = 4; };
 end

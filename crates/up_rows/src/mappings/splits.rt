@@ -60,9 +60,9 @@ point deep loop 1 -> call 1 { q = r; } + inner loop 1 { x = n; b = 1; };
 ---
 same
 === slots of each part in the order of its function
-point deep loop 1 -> call 2 { q = 1; x = 2; } + outer call 1 { d = 3; o = 4; } + middle call 1 { c = 5; m = 6; } + inner loop 1 { b = 7; x = 8; };
+point deep loop 1 -> call 1 { q = 1; x = 2; } + inner loop 1 { b = 7; x = 8; };
 ---
-point deep loop 1 -> call 2 { x = 2; q = 1; } + outer call 1 { o = 4; d = 3; } + middle call 1 { m = 6; c = 5; } + inner loop 1 { x = 8; b = 7; };
+point deep loop 1 -> call 1 { x = 2; q = 1; } + inner loop 1 { x = 8; b = 7; };
 === one name of a slot in two parts
 point deep loop 1 -> call 1 { x = 1; } + inner loop 1 { x = 2; };
 ---
