@@ -2,8 +2,7 @@
 //!
 //! The layer above rests on `read_map`: what it answers is the one mapping that the text is, or its
 //! first fault. `read_first_map` does so for the first format, in which a point has one part. The
-//! rules are in the grammar of the sources, and the machine that reads by them
-//! is theirs.
+//! rules are in the grammar of the sources, and the machine that reads by them is theirs.
 #![tactic(auto)]
 
 mod laws;

@@ -6,7 +6,7 @@ mod trees;
 
 use crate::map_lang_rows::rows::{ENTRIES, FAULTS, FIRST, UNEXPECTED};
 use crate::repeats::{Repeat, repeated};
-use c_tree::{At, Entry, Fill, Mapping, Name, Part, Pt};
+use c_tree::{At, Entry, Fill, Mapping, Name, Part};
 use map_lang::{MapRefused, read_map};
 use row_calls::{RowsDiffer, compare, judged, opened};
 use std::alloc::{AllocError, Global};
@@ -43,18 +43,15 @@ fn put_field(text: &mut String, owner: &Name, field: &Name) -> Result<(), AllocE
     write!(text, "field {owner} {field} ")
 }
 
-fn put_point(text: &mut String, function: &Name, old: Pt) -> Result<(), AllocError> {
-    let function = word(function);
-    let kind = kind_word(old.kind);
-    write!(text, "point {function} {kind} {} ", old.number)
-}
-
 fn put_head(text: &mut String, entry: &Entry) -> Result<(), AllocError> {
     match entry {
         Entry::Match(kind, old, new) => put_match(text, *kind, old, new),
         Entry::Field(owner, field, _) => put_field(text, owner, field),
         Entry::Init(global, _) => write!(text, "init {} ", word(global)),
-        Entry::Point(function, old, _) => put_point(text, function, *old),
+        Entry::Point(function, old, _) => {
+            let (function, kind) = (word(function), kind_word(old.kind));
+            write!(text, "point {function} {kind} {} ", old.number)
+        }
         Entry::Check(_) => text.push_str("check "),
     }
 }
@@ -67,18 +64,14 @@ fn put_fills(text: &mut String, alloc: Global, fills: &[Fill]) -> Result<(), All
     Ok(())
 }
 
-fn put_part(text: &mut String, alloc: Global, part: &Part) -> Result<(), AllocError> {
-    if let Some(function) = &part.function {
-        write!(text, "part {} ", word(function))?;
-    }
-    let kind = kind_word(part.point.kind);
-    write!(text, "{kind} {} ", part.point.number)?;
-    put_fills(text, alloc, part.fills.as_slice())
-}
-
 fn put_parts(text: &mut String, alloc: Global, parts: &[Part]) -> Result<(), AllocError> {
     for part in parts {
-        put_part(text, alloc, part)?;
+        if let Some(function) = &part.function {
+            write!(text, "part {} ", word(function))?;
+        }
+        let kind = kind_word(part.point.kind);
+        write!(text, "{kind} {} ", part.point.number)?;
+        put_fills(text, alloc, part.fills.as_slice())?;
     }
     Ok(())
 }
