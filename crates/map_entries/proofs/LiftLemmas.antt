@@ -11,7 +11,6 @@ use Rattle.c_tree.specs.declared.op.BinOp.TheVariants as bin
 use Rattle.c_tree.specs.declared.lifted.LExpr.{LExpr}
 use Rattle.c_tree.specs.declared.lifted.LExpr.TheVariants as l
 use Rattle.c_tree.specs.declared.lifted.LStruct.{LStruct}
-use Rattle.c_tree.specs.declared.lifted.Slot.{Slot}
 use Rattle.c_tree.specs.declared.program.At.{At}
 use Rattle.c_tree.specs.declared.program.Expr.{Expr}
 use Rattle.c_tree.specs.declared.program.ExprKind.{ExprKind}

@@ -1,12 +1,12 @@
 -- The numbers of places by kind, and where a call stands.
-use Rattle.std.proofs.Common.{◌≡◌, ◌∙◌, ℕ, zero, suc, ◌+◌, ◌<◌, ◌≤◌, Bool, true, false, cond, List, [], ◌∷◌, ◌++◌, length, get_or, take, map, Some, None, refl, sym, ap, arith, add-one}
+use Rattle.std.proofs.Common.{◌≡◌, ◌∙◌, ℕ, zero, suc, ◌+◌, ◌<◌, Bool, true, false, cond, List, [], ◌∷◌, ◌++◌, length, get_or, take, map, Some, None, refl, sym, ap, arith, add-one}
 use Rattle.std.specs.Prelude.{Option, filter, is_some, slice_get, unwrap_or}
 use Rattle.std.specs.List.{enumerate_from}
 use Rattle.std.specs.Option.{option_map}
 use Rattle.std.proofs.lemmas.Option.{slice_get-map, unwrap_or-slice_get}
 use Rattle.c_tree.specs.Compute.{literals}
 use Rattle.c_tree.specs.declared.place.Act.{Act}
-use Rattle.c_tree.specs.declared.place.Act.TheVariants.{Enter, Do, Test, EndLoop, Finish}
+use Rattle.c_tree.specs.declared.place.Act.TheVariants.{Enter, Do, Finish}
 use Rattle.c_tree.specs.declared.place.Follow.TheVariants.{One, Leaves}
 use Rattle.c_tree.specs.declared.place.Place.{Place}
 use Rattle.c_tree.specs.declared.place.PlaceKind.{PlaceKind}
@@ -15,7 +15,7 @@ use Rattle.c_tree.specs.declared.lifted.LStmt.TheVariants as s
 use Rattle.c_tree.specs.declared.lifted.LFunction.{LFunction}
 use Rattle.c_tree.specs.declared.mapping.Pt.{Pt}
 use Rattle.c_tree.specs.Layout.{place, places}
-use Rattle.c_tree.specs.Points.{nth, kind_of, is_kind, of_kind, kth, place_of, find_place, callee_in, callee_at, kind_in}
+use Rattle.c_tree.specs.Points.{nth, kind_of, is_kind, of_kind, kth, place_of, find_place, callee_in, callee_at}
 use Rattle.c_tree.specs.Step.{no_function}
 use denote.Enum.Bare.{sameb}
 use Rattle.c_tree.specs.contracts.place.PlaceKind.{the_type}

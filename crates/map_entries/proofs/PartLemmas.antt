@@ -1,5 +1,5 @@
 -- Loops over parts, and over what stands beside them.
-use Rattle.std.proofs.Common.{◌≡◌, ◌∙◌, ℕ, ◌+◌, ◌-◌, ◌<◌, ◌≤◌, zero, suc, min, Bool, true, false, List, [], ◌∷◌, ◌++◌, length, get_or, drop, map, Option, Some, None, refl, sym, ap, append_assoc, arith, length-drop}
+use Rattle.std.proofs.Common.{◌≡◌, ◌∙◌, ℕ, ◌+◌, ◌-◌, ◌<◌, ◌≤◌, suc, min, Bool, true, false, List, [], ◌∷◌, ◌++◌, length, get_or, drop, map, Option, Some, None, refl, sym, ap, append_assoc, append-nil, arith, length-drop}
 use Rattle.std.specs.Prelude.{◌||◌, slice_get}
 use Rattle.std.specs.Option.{option_map}
 use Rattle.std.specs.List.{zip}
@@ -29,12 +29,6 @@ abbrev next : {A B C : Type 0} → (B × A → Option C) → List B → List A �
 next go ys xs made i y x o = option_map (λ rest. made ++ rest) (both o (all_there (map go (zip (drop (i + 1) ys) (drop (i + 1) xs)))))
 
 module _ {A B C : Type 0} (go : B × A → Option C) (ys : List B) (xs : List A) (made : List C) where
-  pub none_made : made ≡ [] → SoFar go ys xs made 0
-  none_made e = sym (ap (λ z. option_map (λ rest. z ++ rest) (all_there (map go (zip ys xs)))) e ∙ same (all_there (map go (zip ys xs)))) where
-    same : (o : Option (List C)) → option_map (λ rest. [] ++ rest) o ≡ o
-    same None = refl
-    same (Some x) = refl
-
   module _ (i : ℕ) (y : B) (x : A) (in_ys : i < length ys) (in_xs : i < length xs) (y_is : y ≡ get_or ys i y) (x_is : x ≡ get_or xs i x) (so : SoFar go ys xs made i) where
     here : all_there (map go (zip ys xs)) ≡ next go ys xs made i y x (go (y, x))
     here = so ∙ ap (λ l. option_map (λ rest. made ++ rest) (all_there (map go l))) (zip_more ys xs i y x in_ys in_xs y_is x_is)
@@ -52,11 +46,7 @@ module _ {A B C : Type 0} (go : B × A → Option C) (ys : List B) (xs : List A)
   all_made i l so =
       let empty : zip (drop i ys) (drop i xs) ≡ [] =
       nil_from_length (zip (drop i ys) (drop i xs)) (omega (arith, l, length-zip (drop i ys) (drop i xs), length-drop i ys, length-drop i xs)) in
-      so ∙ (ap (λ l. option_map (λ rest. made ++ rest) (all_there (map go l))) empty ∙ ap (λ z. Some z) (append_nil made))
-    where
-      append_nil : (xs : List C) → xs ++ [] ≡ xs
-      append_nil [] = refl
-      append_nil (x ∷ xs) = ap (λ z. x ∷ z) (append_nil xs)
+      so ∙ (ap (λ l. option_map (λ rest. made ++ rest) (all_there (map go l))) empty ∙ ap (λ z. Some z) (append-nil made))
 
 -- beside what is seen of a list
 module _ {A B C D : Type 0} (f : D → B) (go : B × A → Option C) (zs : List D) (xs : List A) (made : List C) (i : ℕ) where
@@ -131,16 +121,5 @@ last_at t (y ∷ z ∷ rest) x e = last_at t (z ∷ rest) x (ap (λ n. slice_get
   same : slice_get (z ∷ rest) (length rest) ≡ slice_get (y ∷ z ∷ rest) (suc (suc (length rest)) - 1)
   same = ap (λ n. slice_get (y ∷ z ∷ rest) n) (let e : suc (length rest) ≡ suc (suc (length rest)) - 1 = omega arith in e)
 
-none_last : {A : Type 0} (t : A → Bool) (xs : List A) → slice_get xs (length xs - 1) ≡ None → last_is t xs ≡ false
-none_last t [] e = refl
-none_last t (y ∷ rest) e = absurd (there (length rest) y rest refl (let s : suc (length rest) - 1 ≡ length rest = omega arith in ap (λ n. slice_get (y ∷ rest) n) (sym s) ∙ e)) where
-  there : {A : Type 0} (n : ℕ) (y : A) (rest : List A) → n ≡ length rest → slice_get (y ∷ rest) n ≡ None → ⊥
-  there n y [] s e = none-some y (sym (ap (λ m. slice_get (y ∷ []) m) (sym s) ∙ e))
-  there zero y (z ∷ rest) s e = none-some y (sym e)
-  there (suc n) y (z ∷ rest) s e = there n z rest (let q : n ≡ length rest = omega (arith, s) in q) e
-
 pub last_there : {A B : Type 0} (f : A → B) (t : B → Bool) (xs : List A) (x : A) → slice_get xs (length xs - 1) ≡ Some x → last_is t (map f xs) ≡ t (f x)
 last_there f t xs x e = last_seen f t xs ∙ last_at (λ x. t (f x)) xs x e
-
-pub last_lacks : {A B : Type 0} (f : A → B) (t : B → Bool) (xs : List A) → slice_get xs (length xs - 1) ≡ None → last_is t (map f xs) ≡ false
-last_lacks f t xs e = last_seen f t xs ∙ none_last (λ x. t (f x)) xs e

@@ -1,5 +1,5 @@
 -- A point whose old place and sites are there.
-use Rattle.std.proofs.Common.{◌≡◌, ℕ, List, map, Option, Some, None, Result, Ok, Err, sym, ◌∙◌, ap, subst}
+use Rattle.std.proofs.Common.{◌≡◌, ℕ, List, map, Option, Some, None, Result, Ok, sym, ◌∙◌, ap, subst}
 use Rattle.std.specs.Option.{ok_or, option_map}
 use Rattle.c_tree.specs.declared.cause.EntryCause.TheVariants as c
 use Rattle.c_tree.specs.declared.lifted.Lifted.{Lifted}

@@ -1,11 +1,11 @@
 -- The points of places, one place further.
-use Rattle.std.proofs.Common.{◌≡◌, ◌∙◌, ℕ, ◌+◌, ◌<◌, ◌≤◌, Bool, true, false, List, [], ◌∷◌, ◌++◌, cond, length, get_or, map, refl, sym, ap, arith}
+use Rattle.std.proofs.Common.{◌≡◌, ◌∙◌, ℕ, ◌+◌, ◌<◌, List, [], ◌∷◌, ◌++◌, length, get_or, map, sym, ap, arith}
 use Rattle.std.specs.List.{range_with_len}
 use Rattle.std.proofs.lemmas.List.FromFn.{map-range_with_len_more}
 use Rattle.c_tree.specs.declared.mapping.Pt.{Pt}
 use Rattle.c_tree.specs.declared.place.Place.{Place}
 use Rattle.c_tree.specs.declared.place.PlaceKind.{PlaceKind}
-use Rattle.c_tree.specs.Points.{kind_of, kind_at, is_kind, before}
+use Rattle.c_tree.specs.Points.{kind_of, kind_at, before}
 use Rattle.c_tree.proofs.PointLemmas.{place_of}
 use Rattle.c_places.proofs.TallyLemmas.{seen-first}
 use Rattle.c_places.specs.declared.tally.Tally.{Tally}

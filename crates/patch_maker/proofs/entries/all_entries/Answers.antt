@@ -1,4 +1,4 @@
-use Rattle.std.proofs.Common.{◌≡◌, ◌+◌, map, arith}
+use Rattle.std.proofs.Common.{◌≡◌, ◌+◌, arith}
 use Rattle.patch_maker.proofs.EntriesLemmas.{next_entry, stopped, went_on}
 use Rattle.patch_maker.proofs.entries.all_entries.Goals as goal
 

@@ -1,4 +1,4 @@
-use Rattle.std.proofs.Common.{◌≡◌, sym, ap}
+use Rattle.std.proofs.Common.{sym, ap}
 use Rattle.c_tree.specs.Link.{Link}
 use Rattle.patch_maker.proofs.MakerLemmas.{lifted_result}
 use Rattle.patch_maker.proofs.maker.lifted_entries.Goals as goal

@@ -1,4 +1,3 @@
-use Rattle.std.proofs.Common.{◌∙◌, sym, arith}
 use Rattle.std.proofs.lemmas.Option.{slice_get_past}
 use Rattle.map_entries.proofs.NumberLemmas.{outside_called}
 use Rattle.map_entries.proofs.points.PointTable.callee.Goals as goal
