@@ -125,12 +125,7 @@ fn name_in<'a>(link: &'a Link<'_>, parts: &[LPart], slot: u32) -> &'a [u8]
 }
 
 /// The name of a slot of the parts of a frame of an old function at a place of it.
-fn slot_of<'a>(
-    link: &'a Link<'_>,
-    entries: &[LEntry],
-    at: (u32, u32),
-    slot: u32,
-) -> &'a [u8]
+fn slot_of<'a>(link: &'a Link<'_>, entries: &[LEntry], at: (u32, u32), slot: u32) -> &'a [u8]
     ensures { result.now ≡ spec.slot link.now entries.now at slot }
 {
     match declared_parts(entries, at.0, at.1) {

@@ -9,5 +9,7 @@ linked_words-requires c = subst (λ k. KeepsLimit k.old) (sym c.in-Ok.ensures) c
 
 pub returns-in-Ok : goal.returns-in-Ok
 returns-in-Ok c =
-    let is = c.in-Ok.ensures ∙ ap (λ es. link_of c.args.patch.now.old c.args.patch.now.new es) c.as_slice.ensures in
-    subst (λ k. IfOk c.linked_words.result (λ words. words ≡ spec.reason k c.args.at c.args.reason)) is c.linked_words.ensures
+    let p = c.args.patch.now in
+    let is = c.in-Ok.ensures ∙ ap (λ es. link_of p.old p.new es) c.as_slice.ensures in
+    subst (λ es. IfOk c.linked_words.result (λ words. words ≡ spec.reason (link_of p.old p.new p.entries) es c.args.at c.args.reason)) c.as_slice-in-Ok.ensures
+    (subst (λ k. IfOk c.linked_words.result (λ words. words ≡ spec.reason k c.as_slice-in-Ok.result.now c.args.at c.args.reason)) is c.linked_words.ensures)
