@@ -1,1 +1,7 @@
 mod Programs
+-- the mapping
+mod MappingEntries
+mod MappingNumbers
+mod MappingLifts
+mod MappingOrder
+mod MappingText
