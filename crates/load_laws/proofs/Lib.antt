@@ -5,3 +5,6 @@ mod MappingNumbers
 mod MappingLifts
 mod MappingOrder
 mod MappingText
+mod MappingKept
+mod MappingSound
+mod Accepted

@@ -3,7 +3,6 @@ use Rattle.std.proofs.Common.{ℕ, ◌+◌, ◌-◌, pos, List, [], ◌∷◌, �
 use Rattle.std.specs.List.{flat_map, range_with_len}
 use Rattle.c_tree.specs.declared.op.BinOp.TheVariants as bin
 use Rattle.c_tree.specs.declared.place.PlaceKind.TheVariants as kind
-use Rattle.c_tree.specs.declared.program.Expr.{Expr}
 use Rattle.c_tree.specs.declared.program.ExprKind.TheVariants as e
 use Rattle.c_tree.specs.declared.lifted.LExpr.TheVariants as l
 use Rattle.c_tree.specs.declared.mapping.Pt.{Pt}

@@ -1,10 +1,10 @@
 -- The numbers of the functions, by their names, and that each goes to the one of the same number.
-use Rattle.std.proofs.Common.{◌≡◌, ◌⊎◌, inl, inr, ℕ, zero, suc, ◌+◌, ◌-◌, ◌<◌, ◌≤◌, ◌^◌, Bool, true, false, cond, List, [], ◌∷◌, ◌++◌, length, Option, Some, None, refl, sym, ap, ◌∙◌, arith, codes, map}
+use Rattle.std.proofs.Common.{◌≡◌, ◌⊎◌, inl, inr, ℕ, zero, suc, ◌+◌, ◌-◌, ◌<◌, ◌≤◌, ◌^◌, Bool, true, false, cond, List, [], ◌∷◌, ◌++◌, Option, Some, None, refl, sym, ap, ◌∙◌, arith, codes, map}
 use Rattle.std.proofs.lemmas.Bool.{cases_lt}
-use Rattle.std.specs.Prelude.{slice_get, not, ◌||◌, if◌then◌else◌}
+use Rattle.std.specs.Prelude.{slice_get, not, if◌then◌else◌}
 use Rattle.std.specs.Option.{option_flatten}
 use Rattle.std.specs.Fmt.{decimal}
-use Rattle.std.specs.List.{range_with_len, enumerate_from, position_from, list_any}
+use Rattle.std.specs.List.{range_with_len, enumerate_from, position_from}
 use Rattle.std.specs.Str.Parse.{digits_value}
 use Rattle.std.proofs.lemmas.Option.{get_or_from_slice_get}
 use Rattle.std.proofs.lemmas.Fmt.{decimal_is_IsNumeral}
@@ -19,7 +19,7 @@ use Rattle.c_tree.specs.Link.{Link, match_of, unclaimed, matches, match_at, star
 use Rattle.patch_laws.proofs.Numbers.{own_name, number_at}
 use Rattle.patch_laws.proofs.LiftedLink.{built}
 use Rattle.lift_laws.proofs.ApartLemmas.{unlike}
-use Rattle.load_laws.proofs.Programs.{function_name, first_lifted, next_lifted, work_lifted, main_lifted, program, old_program, new_program}
+use Rattle.load_laws.proofs.Programs.{function_name, first_lifted, next_lifted, work_lifted, main_lifted, program}
 
 -- Numbers have different names.
 same_decimal : (k j : ℕ) → k < 2 ^ 64 → j < 2 ^ 64 → decimal k ≡ decimal j → k ≡ j

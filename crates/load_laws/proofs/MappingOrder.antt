@@ -1,5 +1,5 @@
 -- The entries of the mapping stand in their canonical order, and no two are of one place.
-use Rattle.std.proofs.Common.{◌≡◌, ℕ, zero, suc, ◌+◌, ◌-◌, ◌*◌, ◌<◌, ◌≤◌, Bool, true, false, List, [], ◌∷◌, ◌++◌, refl, sym, ap, ◌∙◌, arith, map}
+use Rattle.std.proofs.Common.{◌≡◌, ℕ, zero, suc, ◌+◌, ◌-◌, ◌*◌, ◌<◌, ◌≤◌, Bool, false, List, [], ◌∷◌, ◌++◌, refl, ap, ◌∙◌, arith, map}
 use Rattle.std.specs.Prelude.{◌&&◌, ◌||◌, ◌==◌, nat_lt}
 use Rattle.std.specs.List.{list_any, flat_map, range_with_len}
 use Rattle.std.proofs.lemmas.Bool.Decides.{nat_tests}
@@ -10,7 +10,7 @@ use Rattle.c_tree.specs.Canonical.{key_of, is_before, fills_in_order, with_fills
 use Rattle.c_tree.specs.Sound.{numbers_clash}
 use Rattle.patch_laws.proofs.LiftedLink.{claims}
 use Rattle.patch_laws.proofs.Sorting.{any_pair, IsAhead, InOrder, in_order_kept}
-use Rattle.load_laws.proofs.MappingEntries.{kept_place, value_of, first_numbered, next_numbered, main_numbered, load_entries}
+use Rattle.load_laws.proofs.MappingEntries.{next_numbered, main_numbered, load_entries}
 
 -- All are points of fewer than 16 places of a function; the places ascend, and stand at m or behind it.
 abbrev pub Ascend : ℕ → List LEntry → Type 0

@@ -1,5 +1,5 @@
 -- The text of the mapping is the canonical text of its entries.
-use Rattle.std.proofs.Common.{◌≡◌, ℕ, zero, suc, ◌+◌, ◌-◌, ◌<◌, ◌≤◌, false, List, [], ◌∷◌, ◌++◌, refl, sym, ap, ◌∙◌, arith, codes, append_assoc, append-nil}
+use Rattle.std.proofs.Common.{◌≡◌, ℕ, zero, suc, ◌+◌, ◌-◌, ◌≤◌, false, List, [], ◌∷◌, ◌++◌, refl, sym, ap, ◌∙◌, arith, codes, append_assoc, append-nil}
 use Rattle.std.specs.Prelude.{nat_le, if◌then◌else◌, unwrap_or}
 use Rattle.std.specs.Fmt.{decimal}
 use Rattle.std.specs.List.{flat_map, range_with_len}
@@ -13,8 +13,8 @@ use Rattle.c_tree.specs.Compute.{literals}
 use Rattle.c_tree.specs.Step.{function_of}
 use Rattle.c_tree.specs.Points.{point_of}
 use Rattle.c_tree.specs.Link.{Link}
-use Rattle.c_tree.specs.Canonical.{point_text, fills_text, matched_function, entry_text}
-use Rattle.load_texts.specs.Texts.{called, entry, fill, filled, frames, kept, main_frames, mapping}
+use Rattle.c_tree.specs.Canonical.{point_text, fills_text, entry_text}
+use Rattle.load_texts.specs.Texts.{entry, fill, filled, frames, kept, main_frames, mapping}
 use Rattle.load_laws.proofs.Programs.{function_name, old_locals, new_locals, first_lifted, next_lifted, main_lifted, old_program, new_program}
 use Rattle.load_laws.proofs.MappingEntries.{kept_place, value_of, first_numbered, next_numbered, main_numbered, load_entries}
 use Rattle.load_laws.proofs.MappingNumbers.{plain_link, IsKeptFunction}
@@ -24,17 +24,17 @@ use Rattle.load_laws.proofs.MappingLifts.{old_word, new_word, load_link, reads_b
 abbrev pub line : Link → LEntry → List ℕ
 line link x = entry_text link x ++ 59 ∷ 10 ∷ []
 
--- the line of a place that is kept, by the function and the one that it goes to
-abbrev between : Link → LFunction → LFunction → ℕ → List LFill → List ℕ
-between link f g place values =
+-- the line of a place that is kept, by its function and the one that it goes to
+abbrev line_between : Link → LFunction → LFunction → ℕ → List LFill → List ℕ
+line_between link f g place values =
     codes "point " ++ f.name ++ 32 ∷ point_text (point_of f place) ++ codes " -> " ++ point_text (point_of g place) ++ fills_text (reads_beside link.old f) g.slots values ++ 59 ∷ 10 ∷ []
 
 line_is : (p q : Lifted) (name : List ℕ) (i : ℕ) (f g : LFunction) (place : ℕ) (values : List LFill) → IsKeptFunction p q name i f g
-    → line (plain_link p q) (kept_place i place values) ≡ between (plain_link p q) f g place values
+    → line (plain_link p q) (kept_place i place values) ≡ line_between (plain_link p q) f g place values
 line_is p q name i f g place values h =
     let link = plain_link p q in
-    ap (λ j. between link (function_of p i) (function_of q (unwrap_or j 0)) place values) h.matches
-    ∙ (ap (λ z. between link z (function_of q i) place values) h.old ∙ ap (λ z. between link f z place values) h.new)
+    ap (λ j. line_between link (function_of p i) (function_of q (unwrap_or j 0)) place values) h.matches
+    ∙ (ap (λ z. line_between link z (function_of q i) place values) h.old ∙ ap (λ z. line_between link f z place values) h.new)
 
 -- Texts that are put together, from the left or from the right.
 six : (a b c d e f : List ℕ) → a ++ b ++ c ++ d ++ e ++ f ≡ a ++ (b ++ (c ++ (d ++ (e ++ f))))
@@ -51,15 +51,15 @@ fill_end d =
     ∙ (append_assoc (d ++ codes "; ") (codes "}") (codes ";\n") ∙ append_assoc d (codes "; ") (codes "};\n"))
 
 -- The lines of one function.
-first_entry : (link : Link) → between link (first_lifted old_locals) (first_lifted new_locals) 0 [] ≡ entry 1
+first_entry : (link : Link) → line_between link (first_lifted old_locals) (first_lifted new_locals) 0 [] ≡ entry 1
 unfolding literals
 first_entry link = refl
 
-first_loop : (link : Link) → between link (first_lifted old_locals) (first_lifted new_locals) 5 (value_of 1 ∷ []) ≡ filled 1 (codes "loop 1")
+first_loop : (link : Link) → line_between link (first_lifted old_locals) (first_lifted new_locals) 5 (value_of 1 ∷ []) ≡ filled 1 (codes "loop 1")
 unfolding literals kept fill
 first_loop link = refl
 
-next_entry : (link : Link) (k : ℕ) → between link (next_lifted old_locals k) (next_lifted new_locals k) 0 [] ≡ entry k
+next_entry : (link : Link) (k : ℕ) → line_between link (next_lifted old_locals k) (next_lifted new_locals k) 0 [] ≡ entry k
 unfolding literals
 next_entry link k = ap (λ t. codes "point f" ++ t) (six (decimal k) (codes " entry") (codes " -> ") (codes "entry") [] (codes ";\n"))
 
@@ -72,31 +72,31 @@ filled_line_is d point =
     six d (32 ∷ point) (codes " -> ") point (codes " { z = i * " ++ (d ++ codes "; " ++ [] ++ codes "}")) (codes ";\n")
     ∙ ap (λ t. d ++ (32 ∷ point ++ (codes " -> " ++ (point ++ (codes " { z = i * " ++ t))))) (fill_end d)
 
-next_loop : (link : Link) (k : ℕ) → between link (next_lifted old_locals k) (next_lifted new_locals k) 5 (value_of k ∷ []) ≡ filled k (codes "loop 1")
+next_loop : (link : Link) (k : ℕ) → line_between link (next_lifted old_locals k) (next_lifted new_locals k) 5 (value_of k ∷ []) ≡ filled k (codes "loop 1")
 unfolding literals kept fill
 next_loop link k = ap (λ t. codes "point f" ++ t) (filled_line_is (decimal k) (codes "loop 1"))
 
-next_call : (link : Link) (k : ℕ) → between link (next_lifted old_locals k) (next_lifted new_locals k) 6 (value_of k ∷ []) ≡ filled k (codes "call 1")
+next_call : (link : Link) (k : ℕ) → line_between link (next_lifted old_locals k) (next_lifted new_locals k) 6 (value_of k ∷ []) ≡ filled k (codes "call 1")
 unfolding literals kept fill
 next_call link k = ap (λ t. codes "point f" ++ t) (filled_line_is (decimal k) (codes "call 1"))
 
-main_entry : (link : Link) (u v : List ℕ) (n : ℕ) → between link (main_lifted u n) (main_lifted v n) 0 [] ≡ codes "point main entry -> entry;\n"
+main_entry : (link : Link) (u v : List ℕ) (n : ℕ) → line_between link (main_lifted u n) (main_lifted v n) 0 [] ≡ codes "point main entry -> entry;\n"
 unfolding literals
 main_entry link u v n = refl
 
-main_first : (link : Link) (u v : List ℕ) (n : ℕ) → between link (main_lifted u n) (main_lifted v n) 5 [] ≡ codes "point main block 1 -> block 1;\n"
+main_first : (link : Link) (u v : List ℕ) (n : ℕ) → line_between link (main_lifted u n) (main_lifted v n) 5 [] ≡ codes "point main block 1 -> block 1;\n"
 unfolding literals
 main_first link u v n = refl
 
-main_second : (link : Link) (u v : List ℕ) (n : ℕ) → between link (main_lifted u n) (main_lifted v n) 6 [] ≡ codes "point main block 2 -> block 2;\n"
+main_second : (link : Link) (u v : List ℕ) (n : ℕ) → line_between link (main_lifted u n) (main_lifted v n) 6 [] ≡ codes "point main block 2 -> block 2;\n"
 unfolding literals
 main_second link u v n = refl
 
-main_third : (link : Link) (u v : List ℕ) (n : ℕ) → between link (main_lifted u n) (main_lifted v n) 7 [] ≡ codes "point main block 3 -> block 3;\n"
+main_third : (link : Link) (u v : List ℕ) (n : ℕ) → line_between link (main_lifted u n) (main_lifted v n) 7 [] ≡ codes "point main block 3 -> block 3;\n"
 unfolding literals
 main_third link u v n = refl
 
-main_fourth : (link : Link) (u v : List ℕ) (n : ℕ) → between link (main_lifted u n) (main_lifted v n) 8 [] ≡ codes "point main block 4 -> block 4;\n"
+main_fourth : (link : Link) (u v : List ℕ) (n : ℕ) → line_between link (main_lifted u n) (main_lifted v n) 8 [] ≡ codes "point main block 4 -> block 4;\n"
 unfolding literals
 main_fourth link u v n = refl
 

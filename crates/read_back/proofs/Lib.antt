@@ -18,12 +18,12 @@ mod Numbering
 mod Spelt
 mod Fits
 mod Places
-mod Again
+pub mod Again
 -- from an entry to its tokens
 mod Joined
 mod Parts
 mod Fills
 mod Entries
 -- all of it
-mod Whole
+pub mod Whole
 mod Law
