@@ -1,1 +1,4 @@
 mod Programs
+mod DeclaredNames
+mod SourceTypes
+mod SourceLifting

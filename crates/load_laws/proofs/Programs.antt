@@ -334,12 +334,3 @@ tree wide n = record {
   functions = functions_tree wide n;
   len = length (text wide n);
 }
-
--- for example
-old_of_two : lift (tree false 2) ≡ old_program 2
-unfolding literals liftings old_source
-old_of_two = refl
-
-new_of_two : lift (tree true 2) ≡ new_program 2
-unfolding literals liftings new_source
-new_of_two = refl
