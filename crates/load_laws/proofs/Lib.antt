@@ -2,3 +2,4 @@ mod Programs
 mod DeclaredNames
 mod SourceTypes
 mod SourceLifting
+mod SourceNames
