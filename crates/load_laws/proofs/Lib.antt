@@ -3,3 +3,4 @@ mod DeclaredNames
 mod SourceTypes
 mod SourceLifting
 mod SourceNames
+mod SourceProgram
