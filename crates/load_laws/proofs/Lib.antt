@@ -4,3 +4,5 @@ mod SourceTypes
 mod SourceLifting
 mod SourceNames
 mod SourceProgram
+mod ScanStub
+mod SourceTokens
