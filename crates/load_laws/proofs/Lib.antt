@@ -6,3 +6,4 @@ mod SourceNames
 mod SourceProgram
 mod ScanStub
 mod SourceTokens
+mod SourceTexts
