@@ -7,3 +7,5 @@ mod SourceProgram
 mod ScanStub
 mod SourceTokens
 mod SourceTexts
+mod Derivation
+mod SourceForm
