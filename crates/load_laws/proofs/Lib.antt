@@ -9,3 +9,4 @@ mod SourceTokens
 mod SourceTexts
 mod Derivation
 mod SourceForm
+mod SourceSections
