@@ -1,19 +1,16 @@
 -- What the names of a file stand for, where they stand in text order and differ.
-use Rattle.std.proofs.Common.{◌≡◌, ◌≢◌, ℕ, zero, suc, ◌+◌, ◌<◌, ◌≤◌, Bool, true, false, ◌&&◌, not, List, [], ◌∷◌, ◌++◌, length, map, cond, Option, Some, None, refl, sym, ap, ◌∙◌, subst, arith}
-use Rattle.std.specs.Prelude.{nat_lt, find, filter, is_some, slice_get, position, unwrap_or, if◌then◌else◌}
-use Rattle.std.specs.List.{list_any, prefix_len, position_or_len, enumerate_from, AllByRecursion}
-use Rattle.std.specs.Cmp.Lexicographic.{pointwise, bytes_decides, other_text}
+use Rattle.std.proofs.Common.{◌≡◌, ◌≢◌, ℕ, zero, suc, ◌+◌, ◌<◌, ◌≤◌, Bool, true, false, ◌&&◌, List, [], ◌∷◌, ◌++◌, length, map, Some, None, refl, sym, ap, ◌∙◌, subst, arith}
+use Rattle.std.specs.Prelude.{nat_lt, find, filter, is_some, slice_get}
+use Rattle.std.specs.List.{list_any, position_or_len, enumerate_from, AllByRecursion}
+use Rattle.std.specs.Cmp.Lexicographic.{bytes_decides}
 use Rattle.std.proofs.lemmas.Bool.Decides.{nat_tests}
 use Rattle.c_tree.specs.declared.scope.Named.{Named}
-use Rattle.c_tree.specs.declared.scope.Meaning.{Meaning}
 use Rattle.c_tree.specs.declared.scope.Meaning.TheVariants as m
-use Rattle.c_tree.specs.declared.scope.Fault.{Fault}
-use Rattle.c_tree.specs.declared.program.At.{At}
 use Rattle.c_tree.specs.declared.program.Function.{Function}
 use Rattle.c_tree.specs.declared.program.Program.{Program}
 use Rattle.c_tree.specs.Scope.{is_same_name, has_name, named, meaning_in, placed, in_order}
 use Rattle.c_tree.specs.Lifting.{number_of}
-use Rattle.c_tree.specs.Typing.{may_follow, name_repeats}
+use Rattle.c_tree.specs.Typing.{name_repeats}
 
 pub same_name : (a : List ℕ) → is_same_name a a ≡ true
 same_name a = (bytes_decides a a).1 refl

@@ -1,7 +1,8 @@
 -- A derivation that the next token leads, step by step.
-use Rattle.std.proofs.Common.{◌≡◌, ℕ, zero, suc, ◌≤◌, Bool, true, false, not, ◌&&◌, List, [], ◌∷◌, ◌++◌, Option, Some, None, refl, sym, ap, ◌∙◌, subst, append_assoc, arith}
+use Rattle.std.proofs.Common.{◌≡◌, ℕ, zero, suc, Bool, true, false, not, ◌&&◌, List, [], ◌∷◌, ◌++◌, Option, Some, None, refl, sym, ap, subst, append_assoc}
 use Rattle.std.specs.Prelude.{nat_le, find, cond, unwrap_or}
 use Rattle.std.proofs.lemmas.Bool.{leb-true}
+use Rattle.c_tree.proofs.BoolLemmas.{and_first, and_last}
 use Rattle.c_grammar.specs.declared.kind.Kind.{Kind}
 use Rattle.c_grammar.specs.declared.kind.Kind.TheVariants as kind
 use Rattle.c_grammar.specs.declared.symbol.Mark.{Mark}
@@ -44,14 +45,6 @@ reached (suc n) (Unless k ∷ symbols) state (p ∷ ps) = None
 reached (suc n) (Expand r ∷ symbols) state (p ∷ ps) =
     elim (predict choices first_kinds r (Some p.kind)) as (λ o. Option (List Symbol × State)) [ None ↦ None | Some front ↦ reached n (front ++ symbols) state (p ∷ ps) ]
 
-first_of : (a b : Bool) → (a && b) ≡ true → a ≡ true
-first_of true b h = refl
-first_of false b h = cc
-
-rest_of : (a b : Bool) → (a && b) ≡ true → b ≡ true
-rest_of true b h = h
-rest_of false b h = cc
-
 other_kind : (p : Piece) → not (is_kind kind.LeftOut (Some p.kind)) ≡ true → p.kind ≡ kind.LeftOut → ⊥
 other_kind p h e = no (subst (λ k. not (is_kind kind.LeftOut (Some k)) ≡ true) e h)
   where
@@ -61,12 +54,12 @@ other_kind p h e = no (subst (λ k. not (is_kind kind.LeftOut (Some k)) ≡ true
 -- what is_taken tells
 kept : (k : Kind) (mark : Mark) (p : Piece) (state : State) → is_taken k mark p state ≡ true → IsKept mark p state
 kept k mark p state h =
-    let rest = rest_of _ _ h in
-    let limits = rest_of _ _ rest in
+    let rest = and_last _ _ h in
+    let limits = and_last _ _ rest in
     record {
-      named = other_kind p (first_of _ _ rest);
-      shallow = leb-true _ _ (first_of _ _ limits);
-      few = leb-true _ _ (rest_of _ _ limits);
+      named = other_kind p (and_first _ _ rest);
+      shallow = leb-true _ _ (and_first _ _ limits);
+      few = leb-true _ _ (and_last _ _ limits);
     }
 
 some_is : {X : Type 0} (y x : X) → Some y ≡ Some x → y ≡ x
@@ -102,7 +95,7 @@ leads (suc n) (Take k mark ∷ symbols) state (p ∷ ps) symbols' state' h value
         → elim b as (λ b. Option (List Symbol × State)) [ true ↦ reached n symbols (with_token mark p.value state) ps | false ↦ None ] ≡ to symbols' state'
         → (reached n symbols (with_token mark p.value state) ps ≡ to symbols' state' → Keeps choices values symbols (with_token mark p.value state) (ps ++ qs))
         → Keeps choices values (Take k mark ∷ symbols) state (p ∷ (ps ++ qs))
-    go true e i ih = takes (same_kind p.kind k (first_of _ _ e)) (kept k mark p state e) (ih i)
+    go true e i ih = takes (same_kind p.kind k (and_first _ _ e)) (kept k mark p state e) (ih i)
     go false e i ih = cc
 leads (suc n) (Unless k ∷ symbols) state (p ∷ ps) symbols' state' h values qs g = cc
 leads (suc n) (Expand r ∷ symbols) state (p ∷ ps) symbols' state' h values qs g = go (predict choices first_kinds r (Some p.kind)) refl h (λ front i. leads n (front ++ symbols) state (p ∷ ps) symbols' state' i values qs g)

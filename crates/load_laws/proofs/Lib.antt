@@ -1,12 +1,15 @@
 mod Programs
+-- the sources: what their names stand for, their types and their lifting
 mod DeclaredNames
+mod SourceNames
 mod SourceTypes
 mod SourceLifting
-mod SourceNames
 mod SourceProgram
-mod ScanStub
+-- from text to tokens, and from tokens to a derivation
 mod SourceTokens
-mod SourceTexts
 mod Derivation
 mod SourceForm
+mod SourceTexts
 mod SourceSections
+-- all of it
+mod Accepted

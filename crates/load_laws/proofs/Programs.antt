@@ -1,10 +1,9 @@
 -- The trees of the two sources, and their programs, by the number that they are made from.
-use Rattle.std.proofs.Common.{◌≡◌, ℕ, zero, suc, ◌+◌, ◌-◌, pos, Bool, true, false, List, [], ◌∷◌, ◌++◌, length, map, codes, Some, None, refl}
+use Rattle.std.proofs.Common.{ℕ, zero, suc, ◌+◌, ◌-◌, pos, Bool, true, false, List, [], ◌∷◌, ◌++◌, length, map, codes, Some, None}
 use Rattle.std.specs.Fmt.{decimal}
 use Rattle.std.specs.List.{range_with_len}
 use Rattle.c_tree.specs.declared.ty.Ty.{Ty}
 use Rattle.c_tree.specs.declared.ty.Ty.TheVariants as ty
-use Rattle.c_tree.specs.declared.op.BinOp.{BinOp}
 use Rattle.c_tree.specs.declared.op.BinOp.TheVariants as bin
 use Rattle.c_tree.specs.declared.program.At.{At}
 use Rattle.c_tree.specs.declared.program.Expr.{Expr}
@@ -13,11 +12,9 @@ use Rattle.c_tree.specs.declared.program.ExprKind.TheVariants as e
 use Rattle.c_tree.specs.declared.program.Stmt.{Stmt}
 use Rattle.c_tree.specs.declared.program.StmtKind.{StmtKind}
 use Rattle.c_tree.specs.declared.program.StmtKind.TheVariants as s
-use Rattle.c_tree.specs.declared.program.Field.{Field}
 use Rattle.c_tree.specs.declared.program.Function.{Function}
 use Rattle.c_tree.specs.declared.program.GlobalDecl.{GlobalDecl}
 use Rattle.c_tree.specs.declared.program.Program.{Program}
-use Rattle.c_tree.specs.declared.lifted.LExpr.{LExpr}
 use Rattle.c_tree.specs.declared.lifted.LExpr.TheVariants as l
 use Rattle.c_tree.specs.declared.lifted.LStmt.{LStmt}
 use Rattle.c_tree.specs.declared.lifted.LStmt.TheVariants as t
@@ -26,8 +23,6 @@ use Rattle.c_tree.specs.declared.lifted.Slot.{Slot}
 use Rattle.c_tree.specs.declared.lifted.LGlobal.{LGlobal}
 use Rattle.c_tree.specs.declared.lifted.LFunction.{LFunction}
 use Rattle.c_tree.specs.declared.lifted.Lifted.{Lifted}
-use Rattle.c_tree.specs.Compute.{literals}
-use Rattle.c_tree.specs.Lifting.{lift, liftings}
 use Rattle.load_texts.specs.Texts.{first_function, next_function, work, old_source, new_source}
 
 -- the name of the function k
@@ -149,6 +144,32 @@ abbrev pub new_program : ℕ → Lifted
 new_program n = program new_locals (codes "new") n
 
 -- Trees.
+
+-- The parts of the text of a program that stand between names and numbers: the type of a function, its parameter, its loop, what
+-- stands before what it gives, the end of the first function and that of the others, what the threads begin with, and the globals.
+abbrev pub type_text : List ℕ
+type_text = codes "int "
+
+abbrev pub open_text : List ℕ
+open_text = codes "(int x) { "
+
+abbrev pub loop_text : List ℕ
+loop_text = codes " i = 0; while (i < 3) { i = i + 1; x = x + "
+
+abbrev pub return_text : List ℕ
+return_text = codes "; } return "
+
+abbrev pub end_text : List ℕ
+end_text = codes "; } return x; }\n"
+
+abbrev pub called_text : List ℕ
+called_text = codes "(x); }\n"
+
+abbrev pub work_text : List ℕ
+work_text = codes "void *work(void *a) { int r; r = "
+
+abbrev pub total_text : List ℕ
+total_text = codes "int total; pthread_mutex_t m;\n"
 
 -- what a function declares: `i`, and in the new program `z` too
 abbrev pub declared : Bool → List ℕ

@@ -1,12 +1,11 @@
 -- What each function of a source is after lifting, where it is known what the names of the file stand for.
-use Rattle.std.proofs.Common.{◌≡◌, ℕ, suc, ◌+◌, ◌-◌, Bool, true, false, List, [], ◌∷◌, Some, None, refl, codes}
-use Rattle.std.specs.Prelude.{find, slice_get}
-use Rattle.c_tree.specs.declared.scope.Named.{Named}
+use Rattle.std.proofs.Common.{◌≡◌, ℕ, ◌-◌, Bool, true, false, Some, None, refl, codes}
+use Rattle.std.specs.Prelude.{slice_get}
 use Rattle.c_tree.specs.declared.scope.Meaning.TheVariants as m
 use Rattle.c_tree.specs.declared.program.Expr.{Expr}
 use Rattle.c_tree.specs.declared.program.Program.{Program}
 use Rattle.c_tree.specs.Compute.{literals}
-use Rattle.c_tree.specs.Scope.{Scope, has_name, meaning, names_of, file_scope, routine}
+use Rattle.c_tree.specs.Scope.{meaning, file_scope, routine}
 use Rattle.c_tree.specs.Lifting.{function_number, lift_function, passed_limit, liftings}
 use Rattle.load_laws.proofs.Programs.{function_name, locals, word, first_lifted, next_lifted, work_lifted, main_lifted, function_tree, first_tree, next_tree, work_tree, main_tree, total_tree}
 

@@ -1,7 +1,6 @@
 -- The functions of a source: where they stand, and what their names stand for.
-use Rattle.std.proofs.Common.{◌≡◌, ◌≢◌, ℕ, zero, suc, ◌+◌, ◌-◌, ◌^◌, ◌<◌, ◌≤◌, Bool, true, false, List, [], ◌∷◌, ◌++◌, length, map, Some, None, refl, sym, ap, ◌∙◌, subst, arith, codes}
-use Rattle.std.specs.Prelude.{find, filter, is_some, slice_get, drop}
-use Rattle.std.specs.Fmt.{decimal}
+use Rattle.std.proofs.Common.{◌≡◌, ◌≢◌, ℕ, zero, suc, ◌+◌, ◌-◌, ◌<◌, ◌≤◌, Bool, true, false, List, [], ◌∷◌, ◌++◌, length, map, Some, refl, ap, ◌∙◌, subst, arith, codes}
+use Rattle.std.specs.Prelude.{find, is_some, drop}
 use Rattle.std.specs.List.{AllByRecursion}
 use Rattle.std.specs.Cmp.Lexicographic.{other_text}
 use Rattle.std.proofs.lemmas.Fmt.{decimal_injective}
@@ -13,10 +12,10 @@ use Rattle.c_tree.specs.declared.program.Program.{Program}
 use Rattle.c_tree.specs.Scope.{is_same_name, has_name, named, names_of, meaning, meaning_in, file_scope, routine, is_defined}
 use Rattle.c_tree.specs.Typing.{definitions, name_repeats}
 use Rattle.c_tree.specs.Lifting.{number_of, function_number}
-use Rattle.load_texts.specs.Texts.{first_function, next_function, work}
+use Rattle.load_texts.specs.Texts.{next_function}
 use Rattle.load_laws.proofs.Programs as programs
 use Rattle.load_laws.proofs.Programs.{function_name, declared, function_tree, first_tree, next_tree, next_trees, after_functions, work_tree, main_tree, at_first, at_second, at_work, at_main, total_tree, functions_tree}
-use Rattle.load_laws.proofs.DeclaredNames.{other_name, turned, Stands, routines, found, got, defined, number, HaveBodies, all_defined, InTextOrder, routines_ascend, kept_order, NoneNamed, differing, NoFunction, FunctionsDiffer, none_of_routines, routines_differ}
+use Rattle.load_laws.proofs.DeclaredNames.{other_name, turned, Stands, routines, found, got, defined, number, HaveBodies, all_defined, InTextOrder, routines_ascend, kept_order, differing, NoFunction, FunctionsDiffer, none_of_routines, routines_differ}
 
 -- Names.
 
@@ -43,10 +42,11 @@ next_stands wide k at zero j tail le lt = absurd (omega (arith, lt))
 next_stands wide k at (suc m) zero tail le lt = let e : k ≡ k + 0 = omega arith in ap (λ i. next_tree wide i at) e
 next_stands wide k at (suc m) (suc j) tail le lt =
     let next = at + length (next_function (declared wide) k) in
-    let e : k + 1 + j ≡ k + suc j = omega arith in
-    (names_differ k (k + suc j) (omega (arith, le)) (omega (arith, le, lt)) (λ h. absurd (omega (arith, h))),
-    subst (λ i. Stands (next_trees wide (k + 1) next m ++ tail) j (next_tree wide i (after_functions wide (k + 1) next j))) e
-    (next_stands wide (k + 1) next m j tail (omega (arith, le)) (omega (arith, lt))))
+    let e : k + 1 + j ≡ k + suc j = omega arith in (
+      names_differ k (k + suc j) (omega (arith, le)) (omega (arith, le, lt)) (λ h. absurd (omega (arith, h))),
+      subst (λ i. Stands (next_trees wide (k + 1) next m ++ tail) j (next_tree wide i (after_functions wide (k + 1) next j))) e
+          (next_stands wide (k + 1) next m j tail (omega (arith, le)) (omega (arith, lt))),
+    )
 
 behind_next : (wide : Bool) (k at m j : ℕ) (tail : List Function) (f : Function) → ((i : ℕ) → function_name i ≢ f.name.it) → Stands tail j f → Stands (next_trees wide k at m ++ tail) (m + j) f
 behind_next wide k at zero j tail f n s = let e : j ≡ 0 + j = omega arith in subst (λ i. Stands tail i f) e s
@@ -63,9 +63,10 @@ next_in_order wide k at (suc m) low tail le rest =
 next_differ : (wide : Bool) (k at m : ℕ) (tail : List Function) → k + m ≤ 1001 → ((i : ℕ) → NoFunction (function_name i) tail) → FunctionsDiffer tail → FunctionsDiffer (next_trees wide k at m ++ tail)
 next_differ wide k at zero tail le none rest = rest
 next_differ wide k at (suc m) tail le none rest =
-    let next = at + length (next_function (declared wide) k) in
-    (all_next (λ f. function_name k ≢ f.name.it) wide (k + 1) next m tail (λ i from a b. names_differ k i (omega (arith, le)) (omega (arith, le, b)) (λ h. absurd (omega (arith, h, a)))) (none k),
-    next_differ wide (k + 1) next m tail (omega (arith, le)) none rest)
+    let next = at + length (next_function (declared wide) k) in (
+      all_next (λ f. function_name k ≢ f.name.it) wide (k + 1) next m tail (λ i from a b. names_differ k i (omega (arith, le)) (omega (arith, le, b)) (λ h. absurd (omega (arith, h, a)))) (none k),
+      next_differ wide (k + 1) next m tail (omega (arith, le)) none rest,
+    )
 
 next_length : (wide : Bool) (k at m : ℕ) (tail : List Function) → length (next_trees wide k at m ++ tail) ≡ m + length tail
 next_length wide k at zero tail = omega arith
@@ -91,10 +92,11 @@ there wide n (suc (suc j)) some le small =
     let a : 2 + j ≡ suc (suc j) = omega arith in
     let b : suc j ≡ suc (suc j) - 1 = omega arith in
     let from = after_functions wide 2 (at_second wide) j in
-    let s : Stands (functions_tree wide n) (suc j) (next_tree wide (suc (suc j)) from) =
-    (names_differ 1 (suc (suc j)) (omega arith) (omega (arith, le, small)) (λ h. absurd (omega (arith, h))),
-    subst (λ i. Stands (next_trees wide 2 (at_second wide) (n - 1) ++ last_two wide n) j (next_tree wide i from)) a
-    (next_stands wide 2 (at_second wide) (n - 1) j (last_two wide n) (omega (arith, le, small)) (omega (arith, le)))) in
+    let s : Stands (functions_tree wide n) (suc j) (next_tree wide (suc (suc j)) from) = (
+      names_differ 1 (suc (suc j)) (omega arith) (omega (arith, le, small)) (λ h. absurd (omega (arith, h))),
+      subst (λ i. Stands (next_trees wide 2 (at_second wide) (n - 1) ++ last_two wide n) j (next_tree wide i from)) a
+          (next_stands wide 2 (at_second wide) (n - 1) j (last_two wide n) (omega (arith, le, small)) (omega (arith, le))),
+    ) in
     record { at = from; gives = _; stands = subst (λ i. Stands (functions_tree wide n) i (next_tree wide (suc (suc j)) from)) b s }
 
 pub work_stands : (wide : Bool) (n : ℕ) → 1 ≤ n → Stands (functions_tree wide n) n (work_tree n (at_work wide n))
@@ -114,16 +116,19 @@ pub have_bodies : (wide : Bool) (n : ℕ) → HaveBodies (functions_tree wide n)
 have_bodies wide n = (refl, all_next (λ f. is_some f.body ≡ true) wide 2 (at_second wide) (n - 1) (last_two wide n) (λ i from a b. refl) (refl, (refl, tt)))
 
 pub in_text_order : (wide : Bool) (n : ℕ) → InTextOrder 27 (functions_tree wide n)
-in_text_order wide n =
-    (omega arith, next_in_order wide 2 (at_second wide) (n - 1) 34 (last_two wide n) (omega arith)
-    (λ l le. (omega (arith, le), (omega arith, tt))))
+in_text_order wide n = (
+  omega arith,
+  next_in_order wide 2 (at_second wide) (n - 1) 34 (last_two wide n) (omega arith)
+      (λ l le. (omega (arith, le), (omega arith, tt))),
+)
 
 pub functions_differ : (wide : Bool) (n : ℕ) → 1 ≤ n → n ≤ 1000 → FunctionsDiffer (functions_tree wide n)
 functions_differ wide n some small =
-    let last = last_two wide n in
-    (all_next (λ f. function_name 1 ≢ f.name.it) wide 2 (at_second wide) (n - 1) last
-    (λ i from a b. names_differ 1 i (omega arith) (omega (arith, some, small, b)) (λ h. absurd (omega (arith, h, a)))) (not_work 1, (not_main 1, tt)),
-    next_differ wide 2 (at_second wide) (n - 1) last (omega (arith, some, small)) (λ i. (not_work i, (not_main i, tt))) ((other_text (codes "work") (codes "main") refl, tt), (tt, tt)))
+    let last = last_two wide n in (
+      all_next (λ f. function_name 1 ≢ f.name.it) wide 2 (at_second wide) (n - 1) last
+          (λ i from a b. names_differ 1 i (omega arith) (omega (arith, some, small, b)) (λ h. absurd (omega (arith, h, a)))) (not_work 1, (not_main 1, tt)),
+      next_differ wide 2 (at_second wide) (n - 1) last (omega (arith, some, small)) (λ i. (not_work i, (not_main i, tt))) ((other_text (codes "work") (codes "main") refl, tt), (tt, tt)),
+    )
 
 pub few_functions : (wide : Bool) (n : ℕ) → n ≤ 1000 → length (functions_tree wide n) ≤ 2000
 few_functions wide n small =

@@ -1,6 +1,6 @@
 -- A source's tree is well typed, keeps the limits, and lifts to its program.
-use Rattle.std.proofs.Common.{◌≡◌, ◌≢◌, ℕ, zero, suc, ◌+◌, ◌-◌, ◌<◌, ◌≤◌, Bool, true, false, List, [], ◌∷◌, ◌++◌, length, map, Option, Some, None, refl, sym, ap, ◌∙◌, subst, arith, codes}
-use Rattle.std.specs.Prelude.{find, is_some, is_none, IsTrue, slice_get, drop}
+use Rattle.std.proofs.Common.{◌≡◌, ℕ, zero, suc, ◌+◌, ◌-◌, ◌<◌, ◌≤◌, Bool, true, List, [], ◌∷◌, ◌++◌, length, map, None, refl, sym, ap, ◌∙◌, subst, arith, codes}
+use Rattle.std.specs.Prelude.{is_none, IsTrue, drop}
 use Rattle.std.specs.List.{AllByRecursion, flat_map, range_with_len}
 use Rattle.std.specs.Cmp.Lexicographic.{other_text}
 use Rattle.std.proofs.lemmas.List.{drop_all}
@@ -16,7 +16,7 @@ use Rattle.c_tree.specs.Fault.{fault, first, unless}
 use Rattle.c_tree.specs.Limits.{max_functions}
 use Rattle.c_tree.specs.Scope.{names_of, file_scope, meaning, is_defined}
 use Rattle.c_tree.specs.Typing.{definitions, function_faults, global_faults, name_repeats, program_faults, first_fault, IsWellTyped}
-use Rattle.c_tree.specs.Lifting.{lift, lift_function, function_number, passed_limit, limit_at, first_limit, lift_limit}
+use Rattle.c_tree.specs.Lifting.{lift, lift_function, passed_limit, limit_at, first_limit, lift_limit}
 use Rattle.load_texts.specs.Texts.{next_function}
 use Rattle.load_laws.proofs.Programs.{function_name, declared, locals, word, text, function_tree, first_tree, next_tree, next_trees, work_tree, main_tree, at_first, at_second, at_work, at_main, total_tree, total_lifted, functions_tree, tree, first_lifted, next_lifted, work_lifted, main_lifted, functions_lifted, program}
 use Rattle.load_laws.proofs.SourceTypes.{first_typed, next_typed, work_typed, main_typed}
@@ -59,15 +59,17 @@ each_typed wide n some small =
     let w = work_known wide n some in
     let f = main_known wide n some in
     let total = total_known wide n in
-    let mutex = mutex_known wide n in
-    (first_typed wide at_first p names one.1.defined,
-    all_next (λ f. function_faults (file_scope p) f ≡ []) wide 2 (at_second wide) (n - 1) (last_two wide n)
-    (λ i from a b.
-    let self = function_known wide n i (omega (arith, a)) (omega (arith, some, b)) small in
-    let called = function_known wide n (i - 1) (omega (arith, a)) (omega (arith, some, b)) small in
-    next_typed wide i from p names self.1.defined called.1.defined called.0.at called.0.gives called.1.routine_is)
-    (work_typed n (at_work wide n) p names w.defined last.1.defined wide last.0.at last.0.gives last.1.routine_is total refl mutex,
-    (main_typed wide (at_main wide n) p names f.defined w.defined n (at_work wide n) w.routine_is total refl, tt)))
+    let mutex = mutex_known wide n in (
+      first_typed wide at_first p names one.1.defined,
+      all_next (λ f. function_faults (file_scope p) f ≡ []) wide 2 (at_second wide) (n - 1) (last_two wide n)
+          (λ i from a b.
+          let self = function_known wide n i (omega (arith, a)) (omega (arith, some, b)) small in
+          let called = function_known wide n (i - 1) (omega (arith, a)) (omega (arith, some, b)) small in
+          next_typed wide i from p names self.1.defined called.1.defined called.0.at called.0.gives called.1.routine_is) (
+            work_typed n (at_work wide n) p names w.defined last.1.defined wide last.0.at last.0.gives last.1.routine_is total refl mutex,
+            (main_typed wide (at_main wide n) p names f.defined w.defined n (at_work wide n) w.routine_is total refl, tt),
+          ),
+    )
 
 nothing : (a b c d e f g : List Fault) → a ≡ [] → b ≡ [] → c ≡ [] → d ≡ [] → e ≡ [] → f ≡ [] → g ≡ [] → a ++ b ++ c ++ d ++ e ++ f ++ g ≡ []
 nothing a b c d e f g i j k l m n o = rw (i, j, k, l, m, n, o) refl
@@ -157,9 +159,11 @@ keeps_limits wide n some small =
     let p = tree wide n in
     let fs = functions_tree wide n in
     ap (first_limit p) (definitions_are fs (length (text wide n)) (have_bodies wide n))
-    ∙ no_limit p fs
-    (ap passed_limit (first_lifts wide at_first p) ∙ first_small wide,
-    all_next (λ f. passed_limit (lift_function p f) ≡ None) wide 2 (at_second wide) (n - 1) (last_two wide n)
-    (λ i from a b. ap passed_limit (next_lifts_here wide n some small i from a b) ∙ next_small wide i)
-    (ap passed_limit (work_lifts_here wide n some small) ∙ work_small n,
-    (ap passed_limit (main_lifts_here wide n some) ∙ main_small wide n, tt)))
+    ∙ no_limit p fs (
+      ap passed_limit (first_lifts wide at_first p) ∙ first_small wide,
+      all_next (λ f. passed_limit (lift_function p f) ≡ None) wide 2 (at_second wide) (n - 1) (last_two wide n)
+          (λ i from a b. ap passed_limit (next_lifts_here wide n some small i from a b) ∙ next_small wide i) (
+            ap passed_limit (work_lifts_here wide n some small) ∙ work_small n,
+            (ap passed_limit (main_lifts_here wide n some) ∙ main_small wide n, tt),
+          ),
+    )

@@ -1,15 +1,14 @@
 -- A whole source is read as its tree, and keeps the limit of a source.
-use Rattle.std.proofs.Common.{◌≡◌, ℕ, zero, suc, ◌+◌, ◌-◌, ◌*◌, ◌≤◌, Bool, true, false, List, [], ◌∷◌, ◌++◌, length, refl, sym, ap, ◌∙◌, subst, arith, append_assoc, codes}
+use Rattle.std.proofs.Common.{◌≡◌, ℕ, zero, suc, ◌+◌, ◌-◌, ◌*◌, ◌≤◌, Bool, true, false, List, [], ◌∷◌, ◌++◌, length, refl, ◌∙◌, subst, arith, append_assoc, codes}
 use Rattle.std.specs.Fmt.{decimal}
 use Rattle.std.specs.List.{flat_map, range_with_len}
 use Rattle.std.proofs.lemmas.List.{length-append}
 use Rattle.std.proofs.lemmas.Fmt.{length-decimal-le}
-use Rattle.c_tree.specs.declared.program.Function.{Function}
 use Rattle.c_tree.specs.declared.program.Program.{Program}
 use Rattle.c_grammar.specs.Effects.{with_function, with_global, with_mutex}
 use Rattle.c_grammar.specs.Values.{no_program}
 use Rattle.load_texts.specs.Texts.{looped, first_function, next_function, next_functions, work, added, main, threads, printed, source, old_source, new_source}
-use Rattle.load_laws.proofs.Programs.{declared, word, named, text, tree, function_name, first_tree, next_trees, work_tree, main_tree, total_tree, at_first, at_second, at_work, at_main, after_functions}
+use Rattle.load_laws.proofs.Programs.{open_text, loop_text, return_text, called_text, total_text, declared, word, named, text, tree, first_tree, next_trees, work_tree, main_tree, total_tree, at_first, at_second, at_work, at_main, after_functions}
 use Rattle.load_laws.proofs.SourceTexts.{Section, both, first_section, next_sections, work_section, main_section, total_section, with_functions}
 
 pub text_is : (wide : Bool) (n : ℕ) → text wide n ≡ source (declared wide) (word wide) n
@@ -33,7 +32,7 @@ read_tree wide n = record (tree wide n) { len = 0 }
 pub whole_section : (wide : Bool) (n : ℕ) → n ≤ 1000 → Section (source (declared wide) (word wide) n) [] 0 no_program (read_tree wide n)
 unfolding source
 whole_section wide n small =
-    let t0 = codes "int total; pthread_mutex_t m;\n" in
+    let t0 = total_text in
     let t1 = first_function (declared wide) in
     let t2 = next_functions (declared wide) n in
     let t3 = work n in
@@ -72,19 +71,19 @@ short_declared true = omega arith
 
 short_looped : (d : List ℕ) (k : ℕ) → length d ≤ 13 → k ≤ 1001 → length (looped d k) ≤ 90
 short_looped d k short small =
-    let r = codes "; } return " in
-    let t4 = codes " i = 0; while (i < 3) { i = i + 1; x = x + " ++ (decimal k ++ r) in
+    let r = return_text in
+    let t4 = loop_text ++ (decimal k ++ r) in
     let t3 = d ++ t4 in
-    let t2 = codes "(int x) { " ++ t3 in
+    let t2 = open_text ++ t3 in
     let a : length (decimal k ++ r) ≤ 15 = pair (decimal k) r 4 11 15 (digits k small) (omega arith) (omega arith) in
-    let b : length t4 ≤ 58 = pair (codes " i = 0; while (i < 3) { i = i + 1; x = x + ") (decimal k ++ r) 43 15 58 (omega arith) a (omega arith) in
+    let b : length t4 ≤ 58 = pair loop_text (decimal k ++ r) 43 15 58 (omega arith) a (omega arith) in
     let c : length t3 ≤ 71 = pair d t4 13 58 71 short b (omega arith) in
-    let e : length t2 ≤ 81 = pair (codes "(int x) { ") t3 10 71 81 (omega arith) c (omega arith) in
+    let e : length t2 ≤ 81 = pair open_text t3 10 71 81 (omega arith) c (omega arith) in
     pair (codes "int f") (decimal k ++ t2) 5 85 90 (omega arith) (pair (decimal k) t2 4 81 85 (digits k small) e (omega arith)) (omega arith)
 
 short_next : (wide : Bool) (k : ℕ) → k ≤ 1001 → length (next_function (declared wide) k) ≤ 102
 short_next wide k small =
-    let e = codes "(x); }\n" in
+    let e = called_text in
     pair (looped (declared wide) k) (codes "f" ++ (decimal (k - 1) ++ e)) 90 12 102 (short_looped (declared wide) k (short_declared wide) small)
     (pair (codes "f") (decimal (k - 1) ++ e) 1 11 12 (omega arith) (pair (decimal (k - 1)) e 4 7 11 (digits (k - 1) (omega (arith, small))) (omega arith) (omega arith)) (omega arith)) (omega arith)
 
@@ -107,7 +106,7 @@ short_main true = omega arith
 pub short_source : (wide : Bool) (n : ℕ) → n ≤ 1000 → length (source (declared wide) (word wide) n) ≤ 1048576
 unfolding source
 short_source wide n small =
-    let t0 = codes "int total; pthread_mutex_t m;\n" in
+    let t0 = total_text in
     let t1 = first_function (declared wide) in
     let t2 = next_functions (declared wide) n in
     let t3 = work n in

@@ -1,5 +1,5 @@
 -- The lexemes of a source, part by part.
-use Rattle.std.proofs.Common.{◌≡◌, ℕ, zero, suc, ◌+◌, ◌-◌, ◌<◌, ◌≤◌, Bool, true, false, List, [], ◌∷◌, ◌++◌, length, map, refl, sym, ap, ◌∙◌, subst, arith, append_assoc, append-nil, codes}
+use Rattle.std.proofs.Common.{◌≡◌, ℕ, zero, suc, ◌+◌, ◌-◌, ◌≤◌, Bool, true, false, List, [], ◌∷◌, ◌++◌, length, map, refl, sym, ap, ◌∙◌, subst, arith, append_assoc, append-nil, codes}
 use Rattle.std.specs.Prelude.{nat_eq}
 use Rattle.std.specs.Fmt.{decimal}
 use Rattle.std.specs.Int.{IsInRange}
@@ -19,7 +19,7 @@ use Rattle.c_grammar.specs.Pieces.{Piece, lexeme_piece}
 use Rattle.c_grammar.specs.Tokens.{word_kind}
 use Rattle.c_grammar.specs.Words.{words}
 use Rattle.load_texts.specs.Texts.{looped, first_function, next_function, work, added, main, threads, printed}
-use Rattle.load_laws.proofs.Programs.{declared, word, named, function_name, after_name, after_declared, after_loop, after_call, after_called, first_tree, next_tree, next_trees, work_tree, main_tree, total_tree}
+use Rattle.load_laws.proofs.Programs.{type_text, open_text, loop_text, return_text, end_text, called_text, work_text, total_text, declared, word, named, function_name, after_name, after_declared, after_loop, after_call, after_called, first_tree, next_tree, next_trees, work_tree, main_tree, total_tree}
 use Rattle.load_laws.proofs.SourceTokens.{Gives, both_give, ended, moved, lexemes_of, chunk_gives, Stops, digits_of, name_lexeme, name_gives, number_lexeme, number_gives}
 use Rattle.load_laws.proofs.Derivation.{LeadsTo, leads_on, reached, to, leads}
 use Rattle.load_laws.proofs.SourceForm.{items, read, pieces_at, name_piece, looped_pieces, first_pieces, first_reached, next_pieces, next_reached, work_pieces, work_reached, main_reached, total_reached}
@@ -28,42 +28,42 @@ use Rattle.load_laws.proofs.SourceForm.{items, read, pieces_at, name_piece, loop
 abbrev pub Chunk : Part → List ℕ → Part → Type 0
 Chunk p bytes q = (rest : List ℕ) (at : ℕ) → Gives p bytes rest at (map (moved at) (lexemes_of p bytes rest)) q
 
-int_gives : Chunk part.Head (codes "int ") part.Middle
+int_gives : Chunk part.Head type_text part.Middle
 unfolding texts ended
-int_gives rest at = chunk_gives part.Head part.Middle (codes "int ") rest at refl refl
+int_gives rest at = chunk_gives part.Head part.Middle type_text rest at refl refl
 
-open_gives : Chunk part.Middle (codes "(int x) { ") part.Middle
+open_gives : Chunk part.Middle open_text part.Middle
 unfolding texts ended
-open_gives rest at = chunk_gives part.Middle part.Middle (codes "(int x) { ") rest at refl refl
+open_gives rest at = chunk_gives part.Middle part.Middle open_text rest at refl refl
 
 declared_gives : (wide : Bool) → Chunk part.Middle (declared wide) part.Middle
 unfolding texts ended
 declared_gives false rest at = chunk_gives part.Middle part.Middle (codes "int i;") rest at refl refl
 declared_gives true rest at = chunk_gives part.Middle part.Middle (codes "int i; int z;") rest at refl refl
 
-loop_gives : Chunk part.Middle (codes " i = 0; while (i < 3) { i = i + 1; x = x + ") part.Middle
+loop_gives : Chunk part.Middle loop_text part.Middle
 unfolding texts ended
-loop_gives rest at = chunk_gives part.Middle part.Middle (codes " i = 0; while (i < 3) { i = i + 1; x = x + ") rest at refl refl
+loop_gives rest at = chunk_gives part.Middle part.Middle loop_text rest at refl refl
 
-end_gives : Chunk part.Middle (codes "; } return x; }\n") part.Head
+end_gives : Chunk part.Middle end_text part.Head
 unfolding texts ended
-end_gives rest at = chunk_gives part.Middle part.Head (codes "; } return x; }\n") rest at refl refl
+end_gives rest at = chunk_gives part.Middle part.Head end_text rest at refl refl
 
-return_gives : Chunk part.Middle (codes "; } return ") part.Middle
+return_gives : Chunk part.Middle return_text part.Middle
 unfolding texts ended
-return_gives rest at = chunk_gives part.Middle part.Middle (codes "; } return ") rest at refl refl
+return_gives rest at = chunk_gives part.Middle part.Middle return_text rest at refl refl
 
-called_gives : Chunk part.Middle (codes "(x); }\n") part.Head
+called_gives : Chunk part.Middle called_text part.Head
 unfolding texts ended
-called_gives rest at = chunk_gives part.Middle part.Head (codes "(x); }\n") rest at refl refl
+called_gives rest at = chunk_gives part.Middle part.Head called_text rest at refl refl
 
-first_gives : Chunk part.Head (codes "int total; pthread_mutex_t m;\n") part.Head
+first_gives : Chunk part.Head total_text part.Head
 unfolding texts ended
-first_gives rest at = chunk_gives part.Head part.Head (codes "int total; pthread_mutex_t m;\n") rest at refl refl
+first_gives rest at = chunk_gives part.Head part.Head total_text rest at refl refl
 
-work_gives : Chunk part.Head (codes "void *work(void *a) { int r; r = ") part.Middle
+work_gives : Chunk part.Head work_text part.Middle
 unfolding texts ended
-work_gives rest at = chunk_gives part.Head part.Middle (codes "void *work(void *a) { int r; r = ") rest at refl refl
+work_gives rest at = chunk_gives part.Head part.Middle work_text rest at refl refl
 
 added_gives : Chunk part.Middle added part.Head
 unfolding texts ended added
@@ -121,15 +121,15 @@ name_is k at le =
 -- The functions.
 
 abbrev pub looped_before : List ℕ → ℕ → List ℕ → List ℕ
-looped_before d k u = codes "int " ++ (function_name k ++ (codes "(int x) { " ++ (d ++ (codes " i = 0; while (i < 3) { i = i + 1; x = x + " ++ (decimal k ++ u)))))
+looped_before d k u = type_text ++ (function_name k ++ (open_text ++ (d ++ (loop_text ++ (decimal k ++ u)))))
 
 -- the lexemes of the function k up to what it gives
 abbrev looped_lexemes : Bool → ℕ → ℕ → List ℕ → List ℕ → List ℕ → List ℕ → List Lexeme → List Lexeme
 looped_lexemes wide k at a b c d last =
-    map (moved at) (lexemes_of part.Head (codes "int ") a)
-    ++ (name_lexeme k (at + 4) ∷ (map (moved (after_name k at)) (lexemes_of part.Middle (codes "(int x) { ") b)
+    map (moved at) (lexemes_of part.Head type_text a)
+    ++ (name_lexeme k (at + 4) ∷ (map (moved (after_name k at)) (lexemes_of part.Middle open_text b)
     ++ (map (moved (after_name k at + 10)) (lexemes_of part.Middle (declared wide) c)
-    ++ (map (moved (after_declared wide k at)) (lexemes_of part.Middle (codes " i = 0; while (i < 3) { i = i + 1; x = x + ") d)
+    ++ (map (moved (after_declared wide k at)) (lexemes_of part.Middle loop_text d)
     ++ (number_lexeme k (after_declared wide k at + 43) ∷ last)))))
 
 name_ends : (k at : ℕ) → at + 4 + length (function_name k) ≡ after_name k at
@@ -139,16 +139,16 @@ looped_give : (wide : Bool) (k at : ℕ) (u rest : List ℕ) (last : List Lexeme
     → (a : List ℕ) × (b : List ℕ) × (c : List ℕ) × (d : List ℕ) × Gives part.Head (looped_before (declared wide) k u) rest at (looped_lexemes wide k at a b c d last) q
 looped_give wide k at u rest last q le stops g =
     let t5 = decimal k ++ u in
-    let t4 = codes " i = 0; while (i < 3) { i = i + 1; x = x + " ++ t5 in
+    let t4 = loop_text ++ t5 in
     let t3 = declared wide ++ t4 in
-    let t2 = codes "(int x) { " ++ t3 in
+    let t2 = open_text ++ t3 in
     let t1 = function_name k ++ t2 in
     let m = after_declared wide k at in
-    let loop = codes " i = 0; while (i < 3) { i = i + 1; x = x + " in
+    let loop = loop_text in
     let c4 = map (moved m) (lexemes_of part.Middle loop (t5 ++ rest)) in
     let c3 = map (moved (after_name k at + 10)) (lexemes_of part.Middle (declared wide) (t4 ++ rest)) in
-    let c2 = map (moved (after_name k at)) (lexemes_of part.Middle (codes "(int x) { ") (t3 ++ rest)) in
-    let c1 = map (moved at) (lexemes_of part.Head (codes "int ") (t1 ++ rest)) in
+    let c2 = map (moved (after_name k at)) (lexemes_of part.Middle open_text (t3 ++ rest)) in
+    let c1 = map (moved at) (lexemes_of part.Head type_text (t1 ++ rest)) in
     let l5 = number_lexeme k (m + 43) ∷ last in
     let l4 = c4 ++ l5 in
     let l3 = c3 ++ l4 in
@@ -159,17 +159,17 @@ looped_give wide k at u rest last q le stops g =
     let g3 : Gives part.Middle t3 rest (after_name k at + 10) l3 q =
     both_give part.Middle part.Middle q (declared wide) t4 rest (after_name k at + 10) m c3 l4 refl (declared_gives wide (t4 ++ rest) (after_name k at + 10)) g4 in
     let g2 : Gives part.Middle t2 rest (after_name k at) l2 q =
-    both_give part.Middle part.Middle q (codes "(int x) { ") t3 rest (after_name k at) (after_name k at + 10) c2 l3 refl (open_gives (t3 ++ rest) (after_name k at)) g3 in
+    both_give part.Middle part.Middle q open_text t3 rest (after_name k at) (after_name k at + 10) c2 l3 refl (open_gives (t3 ++ rest) (after_name k at)) g3 in
     let g1 : Gives part.Middle t1 rest (at + 4) (name_lexeme k (at + 4) ∷ l2) q =
     both_give part.Middle part.Middle q (function_name k) t2 rest (at + 4) (after_name k at) (name_lexeme k (at + 4) ∷ []) l2 (name_ends k at) (name_gives k (t2 ++ rest) (at + 4) le refl) g2 in
-    (t1 ++ rest, t3 ++ rest, t4 ++ rest, t5 ++ rest, both_give part.Head part.Middle q (codes "int ") t1 rest at (at + 4) c1 (name_lexeme k (at + 4) ∷ l2) refl (int_gives (t1 ++ rest) at) g1)
+    (t1 ++ rest, t3 ++ rest, t4 ++ rest, t5 ++ rest, both_give part.Head part.Middle q type_text t1 rest at (at + 4) c1 (name_lexeme k (at + 4) ∷ l2) refl (int_gives (t1 ++ rest) at) g1)
 
 looped_pieces_are : (wide : Bool) (k at : ℕ) (a b c d : List ℕ) (last : List Lexeme) → k ≤ 1001 → map lexeme_piece (looped_lexemes wide k at a b c d last) ≡ looped_pieces wide k at a b c d (map lexeme_piece last)
 looped_pieces_are wide k at a b c d last le =
-    let c1 = map (moved at) (lexemes_of part.Head (codes "int ") a) in
-    let c2 = map (moved (after_name k at)) (lexemes_of part.Middle (codes "(int x) { ") b) in
+    let c1 = map (moved at) (lexemes_of part.Head type_text a) in
+    let c2 = map (moved (after_name k at)) (lexemes_of part.Middle open_text b) in
     let c3 = map (moved (after_name k at + 10)) (lexemes_of part.Middle (declared wide) c) in
-    let c4 = map (moved (after_declared wide k at)) (lexemes_of part.Middle (codes " i = 0; while (i < 3) { i = i + 1; x = x + ") d) in
+    let c4 = map (moved (after_declared wide k at)) (lexemes_of part.Middle loop_text d) in
     let x4 = number_lexeme k (after_declared wide k at + 43) ∷ last in
     let x3 = c4 ++ x4 in
     let x2 = c3 ++ x3 in
@@ -180,29 +180,29 @@ looped_pieces_are wide k at a b c d last le =
     (map-append lexeme_piece c2 x2
     ∙ ap (λ zs. map lexeme_piece c2 ++ zs) (map-append lexeme_piece c3 x3 ∙ ap (λ zs. map lexeme_piece c3 ++ zs) (map-append lexeme_piece c4 x4)))
 
-looped_then : (d : List ℕ) (k : ℕ) (u : List ℕ) → looped d k ++ u ≡ looped_before d k (codes "; } return " ++ u)
+looped_then : (d : List ℕ) (k : ℕ) (u : List ℕ) → looped d k ++ u ≡ looped_before d k (return_text ++ u)
 looped_then d k u =
-    let r = codes "; } return " in
-    let loop = codes " i = 0; while (i < 3) { i = i + 1; x = x + " in
+    let r = return_text in
+    let loop = loop_text in
     let t3 = loop ++ (decimal k ++ r) in
     let t2 = d ++ t3 in
-    let t1 = codes "(int x) { " ++ t2 in
-    ap (λ z. codes "int f" ++ z) (append_assoc (decimal k) t1 u ∙ ap (λ z. decimal k ++ (codes "(int x) { " ++ z)) (append_assoc d t3 u ∙ ap (λ z. d ++ (loop ++ z)) (append_assoc (decimal k) r u)))
+    let t1 = open_text ++ t2 in
+    ap (λ z. codes "int f" ++ z) (append_assoc (decimal k) t1 u ∙ ap (λ z. decimal k ++ (open_text ++ z)) (append_assoc d t3 u ∙ ap (λ z. d ++ (loop ++ z)) (append_assoc (decimal k) r u)))
 
 pub first_section : (wide : Bool) (rest : List ℕ) (at : ℕ) (p : Program) → Section (first_function (declared wide)) rest at p (with_function p (first_tree wide at))
 first_section wide rest at p =
-    let u = codes "; } return x; }\n" in
+    let u = end_text in
     let last = map (moved (after_loop wide 1 at)) (lexemes_of part.Middle u rest) in
     let found = looped_give wide 1 at u rest last part.Head (omega arith) refl (end_gives rest (after_loop wide 1 at)) in
     subst (λ t. Section t rest at p (with_function p (first_tree wide at))) (sym (looped_then (declared wide) 1 (codes "x; }\n")))
-    (section (looped_before (declared wide) 1 u) rest at p (with_function p (first_tree wide at)) 3000 _ (first_pieces wide at found.0 found.1 found.2 found.3 rest) found.4
+    (section (looped_before (declared wide) 1 u) rest at p (with_function p (first_tree wide at)) 3000 (looped_lexemes wide 1 at found.0 found.1 found.2 found.3 last) (first_pieces wide at found.0 found.1 found.2 found.3 rest) found.4
     (looped_pieces_are wide 1 at found.0 found.1 found.2 found.3 last (omega arith)) (first_reached wide at found.0 found.1 found.2 found.3 rest p))
 
 pub next_section : (wide : Bool) (k : ℕ) (rest : List ℕ) (at : ℕ) (p : Program) → k ≤ 1001 → Section (next_function (declared wide) k) rest at p (with_function p (next_tree wide k at))
 next_section wide k rest at p le =
-    let r = codes "; } return " in
+    let r = return_text in
     let name = function_name (k - 1) in
-    let e = codes "(x); }\n" in
+    let e = called_text in
     let m = after_loop wide k at in
     let c = after_call wide k at in
     let u = r ++ (name ++ e) in
@@ -217,7 +217,7 @@ next_section wide k rest at p le =
     let same : map lexeme_piece (l0 ++ l1) ≡ pieces_at m part.Middle r ((name ++ e) ++ rest) ++ name_piece (k - 1) (m + 11) ∷ pieces_at c part.Middle e rest =
     map-append lexeme_piece l0 l1 ∙ ap (λ z. map lexeme_piece l0 ++ z ∷ map lexeme_piece l2) (name_is (k - 1) (m + 11) less) in
     subst (λ t. Section t rest at p (with_function p (next_tree wide k at))) (sym (looped_then (declared wide) k (name ++ e)))
-    (section (looped_before (declared wide) k u) rest at p (with_function p (next_tree wide k at)) 3000 _ (next_pieces wide k at found.0 found.1 found.2 found.3 ((name ++ e) ++ rest) rest) found.4
+    (section (looped_before (declared wide) k u) rest at p (with_function p (next_tree wide k at)) 3000 (looped_lexemes wide k at found.0 found.1 found.2 found.3 (l0 ++ l1)) (next_pieces wide k at found.0 found.1 found.2 found.3 ((name ++ e) ++ rest) rest) found.4
     (looped_pieces_are wide k at found.0 found.1 found.2 found.3 (l0 ++ l1) le ∙ ap (looped_pieces wide k at found.0 found.1 found.2 found.3) same)
     (next_reached wide k at found.0 found.1 found.2 found.3 ((name ++ e) ++ rest) rest p))
   where
@@ -230,7 +230,7 @@ name_stops rest = refl
 
 pub work_section : (n : ℕ) (rest : List ℕ) (at : ℕ) (p : Program) → n ≤ 1001 → Section (work n) rest at p (with_function p (work_tree n at))
 work_section n rest at p le =
-    let front = codes "void *work(void *a) { int r; r = " in
+    let front = work_text in
     let name = function_name n in
     let m = after_called n at in
     let l2 = map (moved m) (lexemes_of part.Middle added rest) in
@@ -250,9 +250,9 @@ main_section wide rest at p =
     section (main (word wide)) rest at p (with_function p (main_tree wide at)) 5000 (map (moved at) (lexemes_of part.Head (main (word wide)) rest)) (pieces_at at part.Head (main (word wide)) rest)
     (main_gives wide rest at) refl (main_reached wide at rest p)
 
-pub total_section : (rest : List ℕ) (p : Program) → Section (codes "int total; pthread_mutex_t m;\n") rest 0 p (with_mutex (with_global p total_tree) (named 27 (codes "m")))
+pub total_section : (rest : List ℕ) (p : Program) → Section total_text rest 0 p (with_mutex (with_global p total_tree) (named 27 (codes "m")))
 total_section rest p =
-    let t = codes "int total; pthread_mutex_t m;\n" in
+    let t = total_text in
     section t rest 0 p (with_mutex (with_global p total_tree) (named 27 (codes "m"))) 1000 (map (moved 0) (lexemes_of part.Head t rest)) (pieces_at 0 part.Head t rest) (first_gives rest 0) refl (total_reached rest p)
 
 -- All functions that call the one before them.

@@ -1,6 +1,6 @@
 -- The lexemes of texts that are put together.
-use Rattle.std.proofs.Common.{◌≡◌, ℕ, zero, suc, ◌+◌, ◌-◌, ◌^◌, ◌<◌, ◌≤◌, Bool, true, false, pos, List, [], ◌∷◌, ◌++◌, length, take, map, Option, Some, None, refl, sym, ap, ◌∙◌, subst, arith, append_assoc, cond}
-use Rattle.std.specs.Prelude.{nat_eq, nat_le, not, ◌&&◌, ◌==◌, if◌then◌else◌, is_none, unwrap_or, codes, Ok, Err}
+use Rattle.std.proofs.Common.{◌≡◌, ℕ, zero, suc, ◌+◌, ◌-◌, ◌^◌, ◌<◌, ◌≤◌, Bool, true, false, pos, List, [], ◌∷◌, ◌++◌, length, take, map, Option, Some, None, refl, sym, ap, ◌∙◌, arith, append_assoc}
+use Rattle.std.specs.Prelude.{nat_eq, nat_le, not, ◌==◌, if◌then◌else◌, is_none, unwrap_or, Ok}
 use Rattle.std.specs.List.{prefix_len, list_all}
 use Rattle.std.specs.Fmt.{decimal}
 use Rattle.std.specs.Int.{IsInRange}
@@ -9,9 +9,8 @@ use Rattle.std.proofs.lemmas.List.{length-append}
 use Rattle.std.proofs.lemmas.Bool.Decides.{nat_tests}
 use Rattle.std.proofs.lemmas.Fmt.{decimal_is_IsNumeral, decimal_nonempty, length-decimal-le}
 use Rattle.std.proofs.lemmas.Str.Parse.{digit_from_value}
-use Rattle.c_tree.specs.declared.cause.ReadCause.{ReadCause}
+use Rattle.c_tree.proofs.BoolLemmas.{and_first, and_last}
 use Rattle.c_tree.specs.declared.cause.ReadCause.TheVariants as cause
-use Rattle.c_tree.specs.declared.program.At.{At}
 use Rattle.c_tree.specs.declared.token.TokenKind.{TokenKind}
 use Rattle.c_tree.specs.declared.token.TokenKind.TheVariants as token
 use Rattle.c_tokens.specs.declared.class.Class.TheVariants as class
@@ -19,19 +18,18 @@ use Rattle.c_tokens.specs.declared.front.Front.{Front}
 use Rattle.c_tokens.specs.declared.front.Front.TheVariants as front
 use Rattle.c_tokens.specs.declared.lexeme.Lexeme.{Lexeme}
 use Rattle.c_tokens.specs.declared.lexeme.LexemeKind.TheVariants as lexeme_kind
-use Rattle.c_tokens.specs.declared.lexeme.Scan.{Scan}
 use Rattle.c_tokens.specs.declared.piece.Part.{Part}
 use Rattle.c_tokens.specs.declared.piece.Part.TheVariants as part
 use Rattle.c_tokens.specs.declared.piece.Piece.{Piece}
 use Rattle.c_tokens.specs.declared.piece.Piece.TheVariants as piece
-use Rattle.c_tokens.specs.Byte.{is_blank, is_digit, is_letter, is_name_byte, class_of, name_run}
+use Rattle.c_tokens.specs.Byte.{is_blank, is_digit, is_name_byte, class_of, name_run}
 use Rattle.c_tokens.specs.Front.{front_of, of_class, word, number}
 use Rattle.c_tokens.specs.Literal.{literal}
-use Rattle.c_tokens.specs.Piece.{piece_at, size_of, part_of, of_front, in_part, of_token, is_hash, fault}
+use Rattle.c_tokens.specs.Piece.{piece_at, size_of, part_of, of_front, of_token, is_hash, fault}
 use Rattle.c_tokens.specs.Source.{scan, lexeme, added, followed, before, scan_from}
 use Rattle.c_tokens.specs.Word.{is_left_out}
 use Rattle.load_laws.proofs.Programs.{function_name}
-use Rattle.load_laws.proofs.ScanStub.{word_run, taken, digits_run, literal_decimal}
+use Rattle.read_back.proofs.Scan.{word_run, taken, digits_run, literal_decimal}
 
 -- Before other bytes, these give these lexemes, from one part of a line to another.
 abbrev pub Gives : Part → List ℕ → List ℕ → ℕ → List Lexeme → Part → Type 0
@@ -139,14 +137,6 @@ no_hash part.Head b h = go (b == 35) h
 no_hash part.Middle b h = refl
 no_hash part.Tail b h = refl
 
-first_of : (a b : Bool) → (a && b) ≡ true → a ≡ true
-first_of true b h = refl
-first_of false b h = cc
-
-rest_of : (a b : Bool) → (a && b) ≡ true → b ≡ true
-rest_of true b h = h
-rest_of false b h = cc
-
 piece_moves : (p : Part) (base at b : ℕ) (rest : List ℕ) → (not (b == 35)) ≡ true → SamePiece base at (piece_at p (base + at) (b ∷ rest)) (piece_at p at (b ∷ rest))
 piece_moves p base at b rest h = let e = no_hash p b h in rw e (front_moves p base at b (front_of (b ∷ rest)))
 
@@ -160,18 +150,18 @@ lexed_moves p base at zero [] rest h = refl
 lexed_moves p base at (suc within) [] rest h = refl
 lexed_moves p base at (suc within) (b ∷ bytes) rest h =
     let e : base + at + 1 ≡ base + (at + 1) = omega arith in
-    ap (λ n. lexed p n within bytes rest) e ∙ lexed_moves p base (at + 1) within bytes rest (rest_of _ _ h)
+    ap (λ n. lexed p n within bytes rest) e ∙ lexed_moves p base (at + 1) within bytes rest (and_last _ _ h)
 lexed_moves p base at zero (b ∷ bytes) rest h =
     let e : base + at + 1 ≡ base + (at + 1) = omega arith in
     let x = piece_at p (base + at) (b ∷ (bytes ++ rest)) in
     let y = piece_at p at (b ∷ (bytes ++ rest)) in
-    let same = piece_moves p base at b (bytes ++ rest) (first_of _ _ h) in
+    let same = piece_moves p base at b (bytes ++ rest) (and_first _ _ h) in
     let ls = map (moved base) (added at y).lexemes in
     ap (λ zs. zs ++ lexed (part_of x) (base + at + 1) (size_of x - 1) bytes rest) same.0
     ∙ ap (λ n. ls ++ lexed (part_of x) n (size_of x - 1) bytes rest) e
     ∙ ap (λ q. ls ++ lexed q (base + (at + 1)) (size_of x - 1) bytes rest) same.2
     ∙ ap (λ n. ls ++ lexed (part_of y) (base + (at + 1)) (n - 1) bytes rest) same.3
-    ∙ ap (λ zs. ls ++ zs) (lexed_moves (part_of y) base (at + 1) (size_of y - 1) bytes rest (rest_of _ _ h))
+    ∙ ap (λ zs. ls ++ zs) (lexed_moves (part_of y) base (at + 1) (size_of y - 1) bytes rest (and_last _ _ h))
     ∙ append_moves base (added at y).lexemes (lexed (part_of y) (at + 1) (size_of y - 1) bytes rest)
 
 ended_moves : (p : Part) (base at within : ℕ) (bytes rest : List ℕ) → has_no_hash bytes ≡ true → ended p (base + at) within bytes rest ≡ ended p at within bytes rest
@@ -180,18 +170,18 @@ ended_moves p base at zero [] rest h = refl
 ended_moves p base at (suc within) [] rest h = refl
 ended_moves p base at (suc within) (b ∷ bytes) rest h =
     let e : base + at + 1 ≡ base + (at + 1) = omega arith in
-    ap (λ n. ended p n within bytes rest) e ∙ ended_moves p base (at + 1) within bytes rest (rest_of _ _ h)
+    ap (λ n. ended p n within bytes rest) e ∙ ended_moves p base (at + 1) within bytes rest (and_last _ _ h)
 ended_moves p base at zero (b ∷ bytes) rest h =
     let e : base + at + 1 ≡ base + (at + 1) = omega arith in
     let x = piece_at p (base + at) (b ∷ (bytes ++ rest)) in
     let y = piece_at p at (b ∷ (bytes ++ rest)) in
-    let same = piece_moves p base at b (bytes ++ rest) (first_of _ _ h) in
+    let same = piece_moves p base at b (bytes ++ rest) (and_first _ _ h) in
     let clean = is_none (added at y).fault in
     ap (λ t. if t then ended (part_of x) (base + at + 1) (size_of x - 1) bytes rest else None) same.1
     ∙ ap (λ n. if clean then ended (part_of x) n (size_of x - 1) bytes rest else None) e
     ∙ ap (λ q. if clean then ended q (base + (at + 1)) (size_of x - 1) bytes rest else None) same.2
     ∙ ap (λ n. if clean then ended (part_of y) (base + (at + 1)) (n - 1) bytes rest else None) same.3
-    ∙ ap (λ o. if clean then o else None) (ended_moves (part_of y) base (at + 1) (size_of y - 1) bytes rest (rest_of _ _ h))
+    ∙ ap (λ o. if clean then o else None) (ended_moves (part_of y) base (at + 1) (size_of y - 1) bytes rest (and_last _ _ h))
 
 -- the lexemes of bytes that others follow
 abbrev pub lexemes_of : Part → List ℕ → List ℕ → List Lexeme

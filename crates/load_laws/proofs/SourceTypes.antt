@@ -1,5 +1,5 @@
 -- Each function of a source is well typed, where it is known what the names of the file stand for.
-use Rattle.std.proofs.Common.{◌≡◌, ℕ, ◌-◌, Bool, true, false, List, [], ◌∷◌, Some, refl, codes}
+use Rattle.std.proofs.Common.{◌≡◌, ℕ, ◌-◌, Bool, true, false, List, [], Some, refl, codes}
 use Rattle.std.specs.Prelude.{find, slice_get}
 use Rattle.c_tree.specs.declared.scope.Named.{Named}
 use Rattle.c_tree.specs.declared.scope.Meaning.TheVariants as m
