@@ -1,10 +1,9 @@
 -- The trees of the two sources, and their programs, by the number that they are made from.
-use Rattle.std.proofs.Common.{◌≡◌, ℕ, zero, suc, ◌+◌, ◌-◌, pos, Bool, true, false, List, [], ◌∷◌, ◌++◌, length, map, codes, Some, None, refl}
+use Rattle.std.proofs.Common.{ℕ, zero, suc, ◌+◌, ◌-◌, pos, Bool, true, false, List, [], ◌∷◌, ◌++◌, length, map, codes, Some, None}
 use Rattle.std.specs.Fmt.{decimal}
 use Rattle.std.specs.List.{range_with_len}
 use Rattle.c_tree.specs.declared.ty.Ty.{Ty}
 use Rattle.c_tree.specs.declared.ty.Ty.TheVariants as ty
-use Rattle.c_tree.specs.declared.op.BinOp.{BinOp}
 use Rattle.c_tree.specs.declared.op.BinOp.TheVariants as bin
 use Rattle.c_tree.specs.declared.program.At.{At}
 use Rattle.c_tree.specs.declared.program.Expr.{Expr}
@@ -13,11 +12,9 @@ use Rattle.c_tree.specs.declared.program.ExprKind.TheVariants as e
 use Rattle.c_tree.specs.declared.program.Stmt.{Stmt}
 use Rattle.c_tree.specs.declared.program.StmtKind.{StmtKind}
 use Rattle.c_tree.specs.declared.program.StmtKind.TheVariants as s
-use Rattle.c_tree.specs.declared.program.Field.{Field}
 use Rattle.c_tree.specs.declared.program.Function.{Function}
 use Rattle.c_tree.specs.declared.program.GlobalDecl.{GlobalDecl}
 use Rattle.c_tree.specs.declared.program.Program.{Program}
-use Rattle.c_tree.specs.declared.lifted.LExpr.{LExpr}
 use Rattle.c_tree.specs.declared.lifted.LExpr.TheVariants as l
 use Rattle.c_tree.specs.declared.lifted.LStmt.{LStmt}
 use Rattle.c_tree.specs.declared.lifted.LStmt.TheVariants as t
@@ -26,8 +23,6 @@ use Rattle.c_tree.specs.declared.lifted.Slot.{Slot}
 use Rattle.c_tree.specs.declared.lifted.LGlobal.{LGlobal}
 use Rattle.c_tree.specs.declared.lifted.LFunction.{LFunction}
 use Rattle.c_tree.specs.declared.lifted.Lifted.{Lifted}
-use Rattle.c_tree.specs.Compute.{literals}
-use Rattle.c_tree.specs.Lifting.{lift, liftings}
 use Rattle.load_texts.specs.Texts.{first_function, next_function, work, old_source, new_source}
 
 -- the name of the function k
@@ -150,6 +145,32 @@ new_program n = program new_locals (codes "new") n
 
 -- Trees.
 
+-- The parts of the text of a program that stand between names and numbers: the type of a function, its parameter, its loop, what
+-- stands before what it gives, the end of the first function and that of the others, what the threads begin with, and the globals.
+abbrev pub type_text : List ℕ
+type_text = codes "int "
+
+abbrev pub open_text : List ℕ
+open_text = codes "(int x) { "
+
+abbrev pub loop_text : List ℕ
+loop_text = codes " i = 0; while (i < 3) { i = i + 1; x = x + "
+
+abbrev pub return_text : List ℕ
+return_text = codes "; } return "
+
+abbrev pub end_text : List ℕ
+end_text = codes "; } return x; }\n"
+
+abbrev pub called_text : List ℕ
+called_text = codes "(x); }\n"
+
+abbrev pub work_text : List ℕ
+work_text = codes "void *work(void *a) { int r; r = "
+
+abbrev pub total_text : List ℕ
+total_text = codes "int total; pthread_mutex_t m;\n"
+
 -- what a function declares: `i`, and in the new program `z` too
 abbrev pub declared : Bool → List ℕ
 declared false = codes "int i;"
@@ -202,7 +223,8 @@ loop_tree k at =
     ∷ []))))
     ∷ []
 
--- where the text behind the name of the function k stands, then that behind its declarations, and that behind its loop
+-- where the text behind the name of the function k stands, that behind its declarations, that behind its loop, and that behind
+-- the name of the function that it calls
 abbrev pub after_name : ℕ → ℕ → ℕ
 after_name k at = at + 5 + length (decimal k)
 
@@ -211,6 +233,9 @@ after_declared wide k at = after_name k at + 10 + length (declared wide)
 
 abbrev pub after_loop : Bool → ℕ → ℕ → ℕ
 after_loop wide k at = after_declared wide k at + 43 + length (decimal k)
+
+abbrev pub after_call : Bool → ℕ → ℕ → ℕ
+after_call wide k at = after_loop wide k at + 12 + length (decimal (k - 1))
 
 -- the function k, from where its text stands, by what it gives
 abbrev pub function_tree : Bool → ℕ → ℕ → Expr → Function
@@ -233,7 +258,7 @@ abbrev pub next_tree : Bool → ℕ → ℕ → Function
 next_tree wide k at =
     function_tree wide k at
     (node (after_loop wide k at + 11)
-    (e.Call (function_name (k - 1)) (use_of (after_loop wide k at + 13 + length (decimal (k - 1))) (codes "x") ∷ [])))
+    (e.Call (function_name (k - 1)) (use_of (after_call wide k at + 1) (codes "x") ∷ [])))
 
 -- the functions from the one with the number k on, so many of them, from where their text stands
 abbrev pub next_trees : Bool → ℕ → ℕ → ℕ → List Function
@@ -249,10 +274,14 @@ after_functions wide k at (suc m) = after_functions wide (k + 1) (at + length (n
 abbrev pub run_at : ℕ → ExprKind → Stmt
 run_at at kind = statement at (s.Run (node at kind))
 
--- what each thread does, from where its text stands, and that behind the name of the function that is called
+-- where the text behind the name of the function stands that a thread calls
+abbrev pub after_called : ℕ → ℕ → ℕ
+after_called n at = at + 34 + length (decimal n)
+
+-- what each thread does, from where its text stands
 abbrev pub work_tree : ℕ → ℕ → Function
 work_tree n at =
-    let after = at + 34 + length (decimal n) in
+    let after = after_called n at in
     record {
       name = named (at + 6) (codes "work");
       ret = ty.AnyPtr;
@@ -268,12 +297,12 @@ work_tree n at =
           ∷ []);
     }
 
--- a thread is started, and joined
-abbrev pub started : ℕ → List ℕ → Stmt
-started at name = run_at at (e.Create (use_of (at + 16) name) (named (at + 25) (codes "work")) (node (at + 31) e.Null))
+-- a thread is started, and joined, so far behind an offset
+abbrev pub started : ℕ → ℕ → List ℕ → Stmt
+started at i name = run_at (at + i) (e.Create (use_of (at + (i + 16)) name) (named (at + (i + 25)) (codes "work")) (node (at + (i + 31)) e.Null))
 
-abbrev pub joined : ℕ → List ℕ → Stmt
-joined at name = run_at at (e.Join (use_of (at + 13) name))
+abbrev pub joined : ℕ → ℕ → List ℕ → Stmt
+joined at i name = run_at (at + i) (e.Join (use_of (at + (i + 13)) name))
 
 -- the main function, from where its text stands
 abbrev pub main_tree : Bool → ℕ → Function
@@ -287,14 +316,14 @@ main_tree wide at = record {
       ∷ statement (at + 40) (s.Declare ty.Thread (codes "b") None)
       ∷ statement (at + 53) (s.Declare ty.Thread (codes "c") None)
       ∷ statement (at + 66) (s.Declare ty.Thread (codes "d") None)
-      ∷ started (at + 69) (codes "a")
-      ∷ started (at + 107) (codes "b")
-      ∷ started (at + 145) (codes "c")
-      ∷ started (at + 183) (codes "d")
-      ∷ joined (at + 221) (codes "a")
-      ∷ joined (at + 244) (codes "b")
-      ∷ joined (at + 267) (codes "c")
-      ∷ joined (at + 290) (codes "d")
+      ∷ started at 69 (codes "a")
+      ∷ started at 107 (codes "b")
+      ∷ started at 145 (codes "c")
+      ∷ started at 183 (codes "d")
+      ∷ joined at 221 (codes "a")
+      ∷ joined at 244 (codes "b")
+      ∷ joined at 267 (codes "c")
+      ∷ joined at 290 (codes "d")
       ∷ statement (at + 313) (s.Print (print_text (word wide)) (use_of (at + 338) (codes "total") ∷ []))
       ∷ statement (at + 346) (s.Return (Some (number_at (at + 353) 0)))
       ∷ []);
@@ -334,12 +363,3 @@ tree wide n = record {
   functions = functions_tree wide n;
   len = length (text wide n);
 }
-
--- for example
-old_of_two : lift (tree false 2) ≡ old_program 2
-unfolding literals liftings old_source
-old_of_two = refl
-
-new_of_two : lift (tree true 2) ≡ new_program 2
-unfolding literals liftings new_source
-new_of_two = refl

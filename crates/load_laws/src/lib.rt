@@ -4,3 +4,7 @@
 //! is read, and its entries are sound between the programs, `loads_are_accepted`.
 #![tactic(auto)]
 
+
+mod laws;
+
+pub use laws::loads_are_accepted;

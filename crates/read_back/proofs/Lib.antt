@@ -11,7 +11,7 @@ mod Levels
 mod Forms
 mod ReadsBack
 -- from text to tokens
-mod Scan
+pub mod Scan
 mod Shown
 -- from numbers to numbers
 mod Numbering
