@@ -46,12 +46,19 @@ next_kept : (k : ℕ) → k ≤ 1000 → AllByRecursion IsKeptEntry (next_named 
 next_kept k small = ((refl, refl, none_kept), ((omega arith, omega arith, one_kept k small), ((omega arith, omega arith, one_kept k small), tt)))
 
 main_kept : AllByRecursion IsKeptEntry main_named
-main_kept =
-    ((refl, refl, none_kept),
-    ((omega arith, omega arith, none_kept),
-    ((omega arith, omega arith, none_kept),
-    ((omega arith, omega arith, none_kept),
-    ((omega arith, omega arith, none_kept), tt)))))
+main_kept = (
+  (refl, refl, none_kept),
+  (
+    (omega arith, omega arith, none_kept),
+    (
+      (omega arith, omega arith, none_kept),
+      (
+        (omega arith, omega arith, none_kept),
+        ((omega arith, omega arith, none_kept), tt),
+      ),
+    ),
+  ),
+)
 
 range_kept : (a m : ℕ) → a + m ≤ 1001 → AllByRecursion IsKeptEntry (flat_map next_named (range_with_len a m))
 range_kept a zero small = tt

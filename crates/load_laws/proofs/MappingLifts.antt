@@ -144,8 +144,10 @@ next_lifts : (n k : ℕ) → 2 ≤ k → k ≤ n → n ≤ 1000 → AllLift (loa
 next_lifts n k le within small =
     let h = next_of n k le within small in (
       lifts _ _ (function_name k) (k - 1) _ _ entry_point [] h ∙ next_at_entry (load_link n) k (k - 1),
-      (lifts _ _ (function_name k) (k - 1) _ _ loop_point (fill_of k ∷ []) h ∙ next_at_loop (load_link n) k (k - 1),
-      (lifts _ _ (function_name k) (k - 1) _ _ call_point (fill_of k ∷ []) h ∙ next_at_call (load_link n) k (k - 1) (callee_matches n k le within small), tt)),
+      (
+        lifts _ _ (function_name k) (k - 1) _ _ loop_point (fill_of k ∷ []) h ∙ next_at_loop (load_link n) k (k - 1),
+        (lifts _ _ (function_name k) (k - 1) _ _ call_point (fill_of k ∷ []) h ∙ next_at_call (load_link n) k (k - 1) (callee_matches n k le within small), tt),
+      ),
     )
 
 main_lifts : (n : ℕ) → 1 ≤ n → AllLift (load_link n) main_named (main_numbered (n + 1))
@@ -153,10 +155,16 @@ main_lifts n some =
     let h = main_of n some in
     let m = n + 1 in (
       lifts _ _ (codes "main") m _ _ entry_point [] h ∙ main_at_entry (load_link n) old_word new_word n m,
-      (lifts _ _ (codes "main") m _ _ (block_point 1) [] h ∙ main_at_first (load_link n) old_word new_word n m,
-      (lifts _ _ (codes "main") m _ _ (block_point 2) [] h ∙ main_at_second (load_link n) old_word new_word n m,
-      (lifts _ _ (codes "main") m _ _ (block_point 3) [] h ∙ main_at_third (load_link n) old_word new_word n m,
-      (lifts _ _ (codes "main") m _ _ (block_point 4) [] h ∙ main_at_fourth (load_link n) old_word new_word n m, tt)))),
+      (
+        lifts _ _ (codes "main") m _ _ (block_point 1) [] h ∙ main_at_first (load_link n) old_word new_word n m,
+        (
+          lifts _ _ (codes "main") m _ _ (block_point 2) [] h ∙ main_at_second (load_link n) old_word new_word n m,
+          (
+            lifts _ _ (codes "main") m _ _ (block_point 3) [] h ∙ main_at_third (load_link n) old_word new_word n m,
+            (lifts _ _ (codes "main") m _ _ (block_point 4) [] h ∙ main_at_fourth (load_link n) old_word new_word n m, tt),
+          ),
+        ),
+      ),
     )
 
 -- The entries of all functions.

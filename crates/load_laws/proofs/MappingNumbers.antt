@@ -15,7 +15,7 @@ use Rattle.c_tree.specs.Scope.{is_same_name}
 use Rattle.c_tree.specs.StartForm.{is_start}
 use Rattle.c_tree.specs.Step.{function_of}
 use Rattle.c_tree.specs.Names.{find_name, names_in}
-use Rattle.c_tree.specs.Link.{Link, match_of, unclaimed, matches, match_at, start_alike}
+use Rattle.c_tree.specs.Link.{Link, match_of, unclaimed, match_at, start_alike}
 use Rattle.patch_laws.proofs.Numbers.{own_name, number_at}
 use Rattle.patch_laws.proofs.LiftedLink.{built}
 use Rattle.lift_laws.proofs.ApartLemmas.{unlike}

@@ -93,26 +93,51 @@ range_ascends : (a m : ℕ) (rest : List LEntry) → 1 ≤ a → Ascend (16 * (a
 range_ascends a zero rest le h = lower (16 * (a - 1)) (16 * (a + 0 - 1)) rest (omega arith) h
 range_ascends a (suc m) rest le h =
     let more = flat_map next_numbered (range_with_len (a + 1) m) ++ rest in
-    let next : Ascend (16 * (a + 1 - 1)) more = range_ascends (a + 1) m rest (omega arith) (lower (16 * (a + 1 + m - 1)) (16 * (a + suc m - 1)) rest (omega arith) h) in
-    (omega arith, omega arith, refl,
-    (omega arith, omega arith, refl,
-    (omega arith, omega arith, refl, lower (16 * (a - 1) + 6 + 1) (16 * (a + 1 - 1)) more (omega (arith, le)) next)))
+    let next : Ascend (16 * (a + 1 - 1)) more = range_ascends (a + 1) m rest (omega arith) (lower (16 * (a + 1 + m - 1)) (16 * (a + suc m - 1)) rest (omega arith) h) in (
+      omega arith,
+      omega arith,
+      refl,
+      (
+        omega arith,
+        omega arith,
+        refl,
+        (omega arith, omega arith, refl, lower (16 * (a - 1) + 6 + 1) (16 * (a + 1 - 1)) more (omega (arith, le)) next),
+      ),
+    )
 
 main_ascends : (n : ℕ) → Ascend (16 * (n + 1)) (main_numbered (n + 1))
-main_ascends n =
-    (omega arith, omega arith, refl,
-    (omega arith, omega arith, refl,
-    (omega arith, omega arith, refl,
-    (omega arith, omega arith, refl,
-    (omega arith, omega arith, refl, tt)))))
+main_ascends n = (
+  omega arith,
+  omega arith,
+  refl,
+  (
+    omega arith,
+    omega arith,
+    refl,
+    (
+      omega arith,
+      omega arith,
+      refl,
+      (
+        omega arith,
+        omega arith,
+        refl,
+        (omega arith, omega arith, refl, tt),
+      ),
+    ),
+  ),
+)
 
 all_ascend : (n : ℕ) → 1 ≤ n → Ascend 0 (load_entries n)
 all_ascend n some =
     let m = n - 1 in
     let rest = flat_map next_numbered (range_with_len 2 m) ++ main_numbered (n + 1) in
-    let main : Ascend (16 * (2 + m - 1)) (main_numbered (n + 1)) = lower (16 * (2 + m - 1)) (16 * (n + 1)) (main_numbered (n + 1)) (omega (arith, some)) (main_ascends n) in
-    (omega arith, omega arith, refl,
-    (omega arith, omega arith, refl, lower (16 * 0 + 5 + 1) (16 * (2 - 1)) rest (omega arith) (range_ascends 2 m (main_numbered (n + 1)) (omega arith) main)))
+    let main : Ascend (16 * (2 + m - 1)) (main_numbered (n + 1)) = lower (16 * (2 + m - 1)) (16 * (n + 1)) (main_numbered (n + 1)) (omega (arith, some)) (main_ascends n) in (
+      omega arith,
+      omega arith,
+      refl,
+      (omega arith, omega arith, refl, lower (16 * 0 + 5 + 1) (16 * (2 - 1)) rest (omega arith) (range_ascends 2 m (main_numbered (n + 1)) (omega arith) main)),
+    )
 
 pub apart : (n : ℕ) → 1 ≤ n → any_pair numbers_clash (load_entries n) ≡ false
 apart n some = no_pair 0 (load_entries n) (all_ascend n some)

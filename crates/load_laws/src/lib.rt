@@ -4,7 +4,6 @@
 //! is read, and its entries are sound between the programs, `loads_are_accepted`.
 #![tactic(auto)]
 
-
 mod laws;
 
 pub use laws::loads_are_accepted;
