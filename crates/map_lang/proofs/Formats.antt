@@ -1,7 +1,7 @@
 -- The two grammars of mappings read the same where each point has one part.
 use Rattle.std.specs.Prelude.{ℕ, List, [], ◌∷◌, ◌++◌, Bool, true, false, ◌&&◌, not, cond, All, Result, Ok, Err, IfOk, MatchResult}
 use Rattle.std.specs.List.{list_all}
-use Rattle.std.proofs.Common.{◌≡◌, ◌⊎◌, inl, inr, refl, sym, ◌∙◌, ap, subst}
+use Rattle.std.proofs.Common.{◌≡◌, ◌-◌, ◌⊎◌, inl, inr, refl, sym, ◌∙◌, ap, subst, arith}
 use Rattle.std.proofs.lemmas.List.Folds.{list_all-append}
 use Rattle.c_tree.specs.declared.mapping.Mapping.{Mapping}
 use Rattle.c_tree.specs.MapForm.{HasMapForm}
@@ -9,9 +9,11 @@ use Rattle.c_tokens.specs.Text.{text_of}
 use Rattle.c_grammar.specs.declared.action.Action.{Action}
 use Rattle.c_grammar.specs.declared.action.Action.TheVariants as action
 use Rattle.c_grammar.specs.declared.kind.Kind.{Kind}
+use Rattle.c_grammar.specs.declared.kind.Kind.TheVariants as kind
 use Rattle.c_grammar.specs.declared.rule.Rule.{Rule}
 use Rattle.c_grammar.specs.declared.rule.Rule.TheVariants as rule
 use Rattle.c_grammar.specs.declared.symbol.Mark.{Mark}
+use Rattle.c_grammar.specs.declared.symbol.Mark.TheVariants.{Skip, Keep}
 use Rattle.c_grammar.specs.declared.symbol.Symbol.{Symbol}
 use Rattle.c_grammar.specs.declared.symbol.Symbol.TheVariants.{Take, Unless, Act, Expand}
 use Rattle.c_grammar.specs.declared.value.Value.{Value}
@@ -58,20 +60,20 @@ more_act action.ThreeParts three = inl refl
 more_act action.FourParts four = inl refl
 more_act a (behind m) = inr m
 
-more_third : (front : List Symbol) {s : List Symbol} → Among front (choices rule.ThirdPart) → MakesMore (front ++ s)
-more_third front first = behind (behind fourth)
-more_third front (later first) = two
-more_third front (later (later m)) = elim m [ ]
+more_third : (front s : List Symbol) → Among front (choices rule.ThirdPart) → MakesMore (front ++ s)
+more_third front s first = behind (behind fourth)
+more_third front s (later first) = two
+more_third front s (later (later m)) = elim m [ ]
 
-more_fourth : (front : List Symbol) {s : List Symbol} → Among front (choices rule.FourthPart) → MakesMore (front ++ s)
-more_fourth front first = behind (behind four)
-more_fourth front (later first) = three
-more_fourth front (later (later m)) = elim m [ ]
+more_fourth : (front s : List Symbol) → Among front (choices rule.FourthPart) → MakesMore (front ++ s)
+more_fourth front s first = behind (behind four)
+more_fourth front s (later first) = three
+more_fourth front s (later (later m)) = elim m [ ]
 
-more_expand : (r : Rule) (front : List Symbol) {s : List Symbol} → Among front (choices r) → MakesMore (Expand r ∷ s) → MakesMore (front ++ s)
-more_expand rule.ThirdPart front m third = more_third front m
-more_expand rule.FourthPart front m fourth = more_fourth front m
-more_expand r front m (behind q) = more_in_front front q
+more_expand : (r : Rule) (front s : List Symbol) → Among front (choices r) → MakesMore (Expand r ∷ s) → MakesMore (front ++ s)
+more_expand rule.ThirdPart front s m third = more_third front s m
+more_expand rule.FourthPart front s m fourth = more_fourth front s m
+more_expand r front s m (behind q) = more_in_front front q
 
 more_take : (k : Kind) (mark : Mark) {s : List Symbol} → MakesMore (Take k mark ∷ s) → MakesMore s
 more_take k mark (behind m) = m
@@ -94,7 +96,7 @@ has_act a symbols vs t (inr m) = elim (more_act a m) [ inl more ↦ inl (more_af
 
 has_expand : (r : Rule) (front symbols : List Symbol) (vs : List Value) → Among front (choices r) → Has (Expand r ∷ symbols) vs → Has (front ++ symbols) vs
 has_expand r front symbols vs m (inl h) = inl h
-has_expand r front symbols vs m (inr q) = inr (more_expand r front m q)
+has_expand r front symbols vs m (inr q) = inr (more_expand r front symbols m q)
 
 has_unless : (k : Kind) (symbols : List Symbol) (vs : List Value) → Has (Unless k ∷ symbols) vs → Has symbols vs
 has_unless k symbols vs (inl h) = inl h
@@ -177,6 +179,9 @@ like_front : (front : List Symbol) {s t : List Symbol} → Like s t → Like (fr
 like_front [] l = l
 like_front (x ∷ front) l = same (like_front front l)
 
+none_closed : (d : ℕ) → d - 0 ≡ d
+none_closed d = omega arith
+
 least_like : {s t : List Symbol} → Like s t → (d : ℕ) → least s d ≡ least t d
 least_like nothing d = refl
 least_like (same {x = Take k mark} l) d = refl
@@ -186,7 +191,7 @@ least_like (same {x = Expand r} l) d = ap (λ n. cond (vanishes_end choices r) n
 least_like (entries l) d = least_like l d
 least_like (entry l) d = refl
 least_like (parts l) d = refl
-least_like (one l) d = least_like l d
+least_like (one {s = s} l) d = ap (λ n. least s n) (none_closed d) ∙ least_like l d
 
 lowered : {values : List Value} {s : List Symbol} {state : State} {ps : List Piece} (low low' : ℕ) → low ≡ low' → Bounded values s state low ps → Bounded values s state low' ps
 lowered {values} {s} {state} {ps} low low' e g = subst (λ n. Bounded values s state n ps) e g
@@ -213,34 +218,38 @@ not_more : {values : List Value} {s : List Symbol} {state : State} {low : ℕ} {
     → Bounded values s state low ps → ⊥
 not_more {values} w is t m g = let no : all_single values ≡ false = has_more w (goes_so g) t (inr m) in let e : true ≡ false = sym is ∙ no in cc
 
-to_first : {values : List Value} {s t : List Symbol} {state : State} {low : ℕ} {ps : List Piece} → AllKept ps → all_single values ≡ true → Like s t → AreTyped t state.values
-    → Bounded values t state low ps → Bounded values s state low ps
-to_first w is nothing h g = g
-to_first w is (same l) h (takes_one {k = k} {mark = mark} {symbols = symbols} {state = state} {p = p} e le few g) =
+-- a point of the first format
+abbrev point_symbols : List Symbol
+point_symbols = Take kind.PointWord Keep ∷ Expand rule.AnyName ∷ Expand rule.Pt ∷ Take kind.Arrow Skip ∷ Expand rule.OnlyPart ∷ Act action.PointEntry ∷ []
+
+to_first : {values : List Value} {s t : List Symbol} {state : State} {low : ℕ} {ps : List Piece} → Like s t → Bounded values t state low ps → AllKept ps → all_single values ≡ true
+    → AreTyped t state.values → Bounded values s state low ps
+to_first nothing g w is h = g
+to_first (same {s = s} l) (takes_one {k = k} {mark = mark} {symbols = symbols} {state = state} {p = p} e le few g) w is h =
     takes_one e le few (lowered _ _ (sym (least_like l (with_token mark p.value state).depth))
-    (to_first w.1 is l (typed_take k mark symbols p.value state.values (w.0 ∙ ap kept_sort e) h) g))
-to_first w is (same l) h (passes_on n g) = passes_on n (to_first w is l h g)
-to_first w is (same l) h (acts {a = a} {symbols = symbols} {state = state} g) = acts (to_first w is l (typed_act a symbols state.values h) g)
-to_first w is (same l) h (expands {r = r} {front = front} {symbols = symbols} {state = state} m g) =
-    expands m (to_first w is (like_front front l) (typed_expand r front symbols state.values m h) g)
-to_first w is (entries l) h (expands {front = front} {symbols = symbols} {state = state} first g) =
-    expands first (to_first w is (entry (same (entries l))) (typed_expand rule.Entries front symbols state.values first h) g)
-to_first w is (entries l) h (expands {front = front} {symbols = symbols} {state = state} (later first) g) =
-    expands (later first) (to_first w is l (typed_expand rule.Entries front symbols state.values (later first) h) g)
-to_first w is (entries l) h (expands (later (later m)) g) = elim m [ ]
-to_first w is (entry l) h (expands {front = front} {symbols = symbols} {state = state} first g) =
-    expands first (to_first w is (same l) (typed_expand rule.Entry front symbols state.values first h) g)
-to_first w is (entry l) h (expands {front = front} {symbols = symbols} {state = state} (later first) g) =
-    expands (later first) (to_first w is (same (same (same (same (parts (same l)))))) (typed_expand rule.Entry front symbols state.values (later first) h) g)
-to_first w is (entry l) h (expands (later (later m)) g) = elim m [ ]
-to_first w is (parts l) h (expands {front = front} {symbols = symbols} {state = state} first g) =
-    expands first (to_first w is (same (same (one l))) (typed_expand rule.Parts front symbols state.values first h) g)
-to_first w is (parts l) h (expands (later m) g) = elim m [ ]
-to_first w is (one l) h (expands {front = front} {symbols = symbols} {state = state} first g) =
+    (to_first {s = s} l g w.1 is (typed_take k mark symbols p.value state.values (w.0 ∙ ap kept_sort e) h)))
+to_first (same {s = s} l) (passes_on n g) w is h = passes_on n (to_first {s = s} l g w is h)
+to_first (same {s = s} l) (acts {a = a} {symbols = symbols} {state = state} g) w is h = acts (to_first {s = s} l g w is (typed_act a symbols state.values h))
+to_first (same {s = s} l) (expands {r = r} {front = front} {symbols = symbols} {state = state} m g) w is h =
+    expands m (to_first {s = front ++ s} (like_front front l) g w is (typed_expand r front symbols state.values m h))
+to_first (entries {s = s} l) (expands {front = front} {symbols = symbols} {state = state} first g) w is h =
+    expands first (to_first {s = Expand rule.FirstEntry ∷ Take kind.Semicolon Skip ∷ Expand rule.FirstEntries ∷ s} (entry (same (entries l))) g w is (typed_expand rule.Entries front symbols state.values first h))
+to_first (entries {s = s} l) (expands {front = front} {symbols = symbols} {state = state} (later first) g) w is h =
+    expands (later first) (to_first {s = s} l g w is (typed_expand rule.Entries front symbols state.values (later first) h))
+to_first (entries l) (expands (later (later m)) g) w is h = elim m [ ]
+to_first (entry {s = s} l) (expands {front = front} {symbols = symbols} {state = state} first g) w is h =
+    expands first (to_first {s = Expand rule.OtherEntry ∷ s} (same l) g w is (typed_expand rule.Entry front symbols state.values first h))
+to_first (entry {s = s} l) (expands {front = front} {symbols = symbols} {state = state} (later first) g) w is h =
+    expands (later first) (to_first {s = point_symbols ++ s} (same (same (same (same (parts (same l)))))) g w is (typed_expand rule.Entry front symbols state.values (later first) h))
+to_first (entry l) (expands (later (later m)) g) w is h = elim m [ ]
+to_first (parts {s = s} l) (expands {front = front} {symbols = symbols} {state = state} first g) w is h =
+    expands first (to_first {s = Expand rule.Pt ∷ Expand rule.Fills ∷ Act action.OnePart ∷ s} (same (same (one l))) g w is (typed_expand rule.Parts front symbols state.values first h))
+to_first (parts l) (expands (later m) g) w is h = elim m [ ]
+to_first (one l) (expands {front = front} {symbols = symbols} {state = state} first g) w is h =
     absurd (not_more w is (typed_expand rule.SecondPart front symbols state.values first h) (behind (behind third)) g)
-to_first w is (one l) h (expands {front = front} {symbols = symbols} {state = state} (later first) (acts g)) =
-    acts (to_first w is l (typed_act action.OnePart symbols state.values (typed_expand rule.SecondPart front symbols state.values (later first) h)) g)
-to_first w is (one l) h (expands (later (later m)) g) = elim m [ ]
+to_first (one {s = s} l) (expands {front = front} {symbols = symbols} {state = state} (later first) (acts g)) w is h =
+    acts (to_first {s = s} l g w is (typed_act action.OnePart symbols state.values (typed_expand rule.SecondPart front symbols state.values (later first) h)))
+to_first (one l) (expands (later (later m)) g) w is h = elim m [ ]
 
 starts_like : Like first_map_start map_start
 starts_like = same (entries nothing)
@@ -261,7 +270,7 @@ one_part_is_first text m is h =
     let values = value.Mapping m ∷ [] in
     let g : Bounded values map_start empty (least map_start 0) ps = bounded map_start ps values map_fits is.reading in
     let back : Bounded values first_map_start empty (least first_map_start 0) ps =
-    lowered _ _ (sym (least_like starts_like 0)) (to_first (all_kept (text_of text).tokens) (is_single m h) starts_like typed_map g) in
+    lowered _ _ (sym (least_like starts_like 0)) (to_first starts_like g (all_kept (text_of text).tokens) (is_single m h) typed_map) in
     record { clean = is.clean; reading = bounded_reads first_map_start ps values first_fits (none_left_out map_start ps values is.reading) back }
 
 pub first_formed : EachFirstMappingHasTheForm

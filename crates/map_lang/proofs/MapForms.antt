@@ -128,13 +128,14 @@ fit_after action.EntryPt vs rest e h = (refl, h)
 fit_after action.NumberPt vs rest e h = (place_is_read (meaning (second vs)), third_fits vs h)
 fit_after action.OnePart vs rest e h = ((refl, point_fits (second vs) (second_fits vs h), omega arith, no_parts), third_fits vs h)
 fit_after action.TwoParts vs rest e h =
-    ((refl, point_fits (third vs) (third_fits vs h), omega arith, one_more _ _ (part_fits vs h) no_parts), fourth_fits vs h)
+    ((refl, point_fits (third vs) (third_fits vs h), omega arith, one_more (part_in vs) [] (part_fits vs h) no_parts), fourth_fits vs h)
 fit_after action.ThreeParts vs rest e h =
-    ((refl, point_fits (fourth vs) (fourth_fits vs h), omega arith, one_more _ _ (part_fits (second vs) (second_fits vs h)) (one_more _ _ (part_fits vs h) no_parts)), fifth_fits vs h)
+    let last : All IsAddedPart (part_in vs ∷ []) = one_more (part_in vs) [] (part_fits vs h) no_parts in
+    ((refl, point_fits (fourth vs) (fourth_fits vs h), omega arith, one_more (part_in (second vs)) (part_in vs ∷ []) (part_fits (second vs) (second_fits vs h)) last), fifth_fits vs h)
 fit_after action.FourParts vs rest e h =
     let last : All IsAddedPart (part_in vs ∷ []) = one_more (part_in vs) [] (part_fits vs h) no_parts in
     let behind : All IsAddedPart (part_in (second vs) ∷ part_in vs ∷ []) = one_more (part_in (second vs)) (part_in vs ∷ []) (part_fits (second vs) (second_fits vs h)) last in
-    ((refl, point_fits (fifth vs) (fifth_fits vs h), omega arith, one_more (part_in (third vs)) _ (part_fits (third vs) (third_fits vs h)) behind), sixth_fits vs h)
+    ((refl, point_fits (fifth vs) (fifth_fits vs h), omega arith, one_more (part_in (third vs)) (part_in (second vs) ∷ part_in vs ∷ []) (part_fits (third vs) (third_fits vs h)) behind), sixth_fits vs h)
 fit_after action.AddPart vs rest e h = ((refl, point_fits (second vs) (second_fits vs h)), fourth_fits vs h)
 fit_after action.Leave vs rest e h = h
 fit_after action.Outer vs rest e h = h

@@ -163,7 +163,7 @@ begun_past t state b = record {
 }
 
 -- a first part and those added behind it
-part_of_first : {added : List Part} {behind : List Value} {state : State} → Begun added behind state → Part
+abbrev part_of_first : {added : List Part} {behind : List Value} {state : State} → Begun added behind state → Part
 part_of_first b = record { function = None; point = b.point; fills = b.fills }
 
 parted : {added : List Part} {behind : List Value} {before : State} (b : Begun added behind before) (rest : List Part) (state : State)
@@ -179,12 +179,12 @@ parted b rest state is le form kept flat = record {
 pub one_parted : (behind : List Value) (state : State) → Begun [] behind state → Parted behind (effect action.OnePart state)
 one_parted behind state b = parted b [] (effect action.OnePart state) (ap (value_effect action.OnePart) b.values) (omega arith) b.added_form b.added_kept (omega (arith, b.flat))
 
-turned : {P : Part → Type 0} (p q : Part) → All P (q ∷ p ∷ []) → All P (p ∷ q ∷ [])
-turned {P} p q h = All-cons P p (q ∷ []) (All-head P p [] (All-tail P q (p ∷ []) h)) (All-cons P q [] (All-head P q (p ∷ []) h) (All-nil P))
+turned : (P : Part → Type 0) (p q : Part) → All P (q ∷ p ∷ []) → All P (p ∷ q ∷ [])
+turned P p q h = All-cons P p (q ∷ []) (All-head P p [] (All-tail P q (p ∷ []) h)) (All-cons P q [] (All-head P q (p ∷ []) h) (All-nil P))
 
-turned_three : {P : Part → Type 0} (p q r : Part) → All P (r ∷ q ∷ p ∷ []) → All P (p ∷ q ∷ r ∷ [])
-turned_three {P} p q r h =
-    let two : All P (p ∷ q ∷ []) = turned p q (All-tail P r (q ∷ p ∷ []) h) in
+turned_three : (P : Part → Type 0) (p q r : Part) → All P (r ∷ q ∷ p ∷ []) → All P (p ∷ q ∷ r ∷ [])
+turned_three P p q r h =
+    let two : All P (p ∷ q ∷ []) = turned P p q (All-tail P r (q ∷ p ∷ []) h) in
     All-cons P p (q ∷ r ∷ []) (All-head P p (q ∷ []) two)
     (All-cons P q (r ∷ []) (All-head P q [] (All-tail P p (q ∷ []) two)) (All-cons P r [] (All-head P r (q ∷ p ∷ []) h) (All-nil P)))
 
@@ -195,12 +195,12 @@ two_parted p behind state b =
 pub three_parted : (p q : Part) (behind : List Value) (state : State) → Begun (q ∷ p ∷ []) behind state → Parted behind (effect action.ThreeParts state)
 three_parted p q behind state b =
     parted b (p ∷ q ∷ []) (effect action.ThreeParts state) (ap (value_effect action.ThreeParts) b.values) (omega arith)
-    (turned p q b.added_form) (turned p q b.added_kept) (omega (arith, b.flat))
+    (turned IsAddedPart p q b.added_form) (turned IsKeptPart p q b.added_kept) (omega (arith, b.flat))
 
 pub four_parted : (p q r : Part) (behind : List Value) (state : State) → Begun (r ∷ q ∷ p ∷ []) behind state → Parted behind (effect action.FourParts state)
 four_parted p q r behind state b =
     parted b (p ∷ q ∷ r ∷ []) (effect action.FourParts state) (ap (value_effect action.FourParts) b.values) (omega arith)
-    (turned_three p q r b.added_form) (turned_three p q r b.added_kept) (omega (arith, b.flat))
+    (turned_three IsAddedPart p q r b.added_form) (turned_three IsKeptPart p q r b.added_kept) (omega (arith, b.flat))
 
 -- an added part
 abbrev pub part_added : Token → Pt → List Fill → Part

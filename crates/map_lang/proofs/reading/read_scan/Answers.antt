@@ -2,8 +2,8 @@ use Rattle.c_tokens.specs.Text.{scanned}
 use Rattle.map_lang.proofs.Readings.{plain, start_fits, answer_at, mapping_here, fault_behind, fault_behind_cut, fault_at_end, fault_seen}
 use Rattle.map_lang.proofs.reading.read_scan.Goals as goal
 
-pub parse : goal.parse
-parse c = start_fits _ c.requires
+pub parse-requires : goal.parse-requires
+parse-requires c = start_fits _ c.requires
 
 pub returns-in-None : goal.returns-in-None
 returns-in-None c =
