@@ -1,5 +1,5 @@
 -- The entries of the mapping between the two programs, by names and by numbers.
-use Rattle.std.proofs.Common.{ℕ, ◌+◌, ◌-◌, pos, List, [], ◌∷◌, ◌++◌, codes}
+use Rattle.std.proofs.Common.{ℕ, ◌+◌, ◌-◌, pos, List, [], ◌∷◌, ◌++◌, None, codes}
 use Rattle.std.specs.List.{flat_map, range_with_len}
 use Rattle.c_tree.specs.declared.op.BinOp.TheVariants as bin
 use Rattle.c_tree.specs.declared.place.PlaceKind.TheVariants as kind
@@ -7,7 +7,9 @@ use Rattle.c_tree.specs.declared.program.ExprKind.TheVariants as e
 use Rattle.c_tree.specs.declared.lifted.LExpr.TheVariants as l
 use Rattle.c_tree.specs.declared.mapping.Pt.{Pt}
 use Rattle.c_tree.specs.declared.mapping.Fill.{Fill}
+use Rattle.c_tree.specs.declared.mapping.Part.{Part}
 use Rattle.c_tree.specs.declared.mapping.LFill.{LFill}
+use Rattle.c_tree.specs.declared.mapping.LPart.{LPart}
 use Rattle.c_tree.specs.declared.mapping.Entry.{Entry}
 use Rattle.c_tree.specs.declared.mapping.Entry.TheVariants as by_name
 use Rattle.c_tree.specs.declared.mapping.LEntry.{LEntry}
@@ -29,9 +31,13 @@ call_point = record { kind = kind.Call; number = 1 }
 abbrev pub block_point : ℕ → Pt
 block_point i = record { kind = kind.Block; number = i }
 
--- a point goes to the point of the same name
+-- a part of the match of the old function
+abbrev pub match_part : Pt → List Fill → Part
+match_part point fills = record { function = None; point = point; fills = fills }
+
+-- a point goes to one part, the point of the same name
 abbrev pub kept_point : List ℕ → Pt → List Fill → Entry
-kept_point name point fills = by_name.Point name point point fills
+kept_point name point fills = by_name.Point name point (match_part point fills ∷ [])
 
 -- the new slot gets a value
 abbrev pub fill_of : ℕ → Fill
@@ -62,9 +68,13 @@ named_entries n = first_named ++ (flat_map next_named (range_with_len 2 (n - 1))
 
 -- By numbers.
 
--- a place goes to the place of the same number
+-- a part by its function, its place and what fills its slots
+abbrev pub part_at : ℕ → ℕ → List LFill → LPart
+part_at f place values = record { function = f; place = place; fills = values }
+
+-- a place goes to one part, the place of the same number
 abbrev pub kept_place : ℕ → ℕ → List LFill → LEntry
-kept_place f place values = by_number.Point f place place values
+kept_place f place values = by_number.Point f place (part_at f place values ∷ [])
 
 abbrev pub value_of : ℕ → LFill
 value_of k = record { slot = 2; expr = l.Bin bin.Mul (l.Slot 1) (l.Num (pos k)) }

@@ -1,9 +1,9 @@
 -- Each entry of the mapping has its numbers.
-use Rattle.std.proofs.Common.{◌≡◌, ◌⊎◌, inl, inr, ℕ, zero, suc, ◌+◌, ◌-◌, ◌<◌, ◌≤◌, List, [], ◌∷◌, ◌++◌, Some, Result, Ok, refl, ap, ◌∙◌, subst, arith, map, codes}
+use Rattle.std.proofs.Common.{◌≡◌, ◌⊎◌, inl, inr, ℕ, zero, suc, ◌+◌, ◌-◌, ◌<◌, ◌≤◌, List, [], ◌∷◌, ◌++◌, Option, Some, None, Result, Ok, refl, ap, ◌∙◌, subst, arith, map, codes}
 use Rattle.std.proofs.lemmas.Bool.{cases_lt, eq-eqb}
 use Rattle.std.specs.Prelude.{Bool, not, ◌&&◌, if◌then◌else◌}
-use Rattle.std.specs.Option.{ok_or}
-use Rattle.std.specs.List.{flat_map, range_with_len, AllZip}
+use Rattle.std.specs.Option.{ok_or, option_map}
+use Rattle.std.specs.List.{list_any, flat_map, range_with_len, AllZip}
 use Rattle.c_tree.specs.declared.cause.EntryCause.{EntryCause}
 use Rattle.c_tree.specs.declared.cause.EntryCause.TheVariants as c
 use Rattle.c_tree.specs.declared.lifted.Lifted.{Lifted}
@@ -21,12 +21,12 @@ use Rattle.c_tree.specs.Names.{same_number}
 use Rattle.c_tree.specs.Points.{is_kind, kind_in, place_of, callee_at}
 use Rattle.c_tree.specs.Link.{Link, match_at}
 use Rattle.c_tree.specs.MapExpr.{Reads}
-use Rattle.c_tree.specs.Suits.{match_of_callee, has_twice}
-use Rattle.c_tree.specs.Entries.{all_there}
-use Rattle.c_tree.specs.Chain.{lifted_fill, lifted_entry}
+use Rattle.c_tree.specs.Suits.{Site, site, match_of_callee, kinds_differ, callees_differ}
+use Rattle.c_tree.specs.Entries.{both, all_there}
+use Rattle.c_tree.specs.Chain.{lifted_fill, lifted_parts, is_twice_filled, lifted_entry}
 use Rattle.patch_laws.proofs.Clash.{AllLift}
 use Rattle.load_laws.proofs.Programs.{function_name, old_locals, new_locals, first_lifted, next_lifted, main_lifted, old_program, new_program}
-use Rattle.load_laws.proofs.MappingEntries.{entry_point, loop_point, call_point, block_point, kept_point, fill_of, first_named, next_named, main_named, named_entries, kept_place, value_of, first_numbered, next_numbered, main_numbered, load_entries}
+use Rattle.load_laws.proofs.MappingEntries.{entry_point, loop_point, call_point, block_point, match_part, kept_point, fill_of, first_named, next_named, main_named, named_entries, part_at, kept_place, value_of, first_numbered, next_numbered, main_numbered, load_entries}
 use Rattle.load_laws.proofs.MappingNumbers.{plain_link, IsKeptFunction, first_kept, next_kept, main_kept}
 
 -- the link of the two programs
@@ -48,6 +48,10 @@ reads_beside p f = record { program = p; slots = f.slots; own = [] }
 abbrev calls_at : LFunction → ℕ → Bool
 calls_at f n = is_kind kind.Call (kind_in f n)
 
+-- what is there, alone in a list
+abbrev one : {A : Type 0} → Option A → Option (List A)
+one o = both o (Some [])
+
 -- what an entry lifts to, by the function of the number i and the one that it goes to
 abbrev between : Link → LFunction → LFunction → ℕ → Pt → List Fill → Result LEntry EntryCause
 between link f g i point fills =
@@ -55,18 +59,40 @@ between link f g i point fills =
     onward (ok_or (place_of g point) c.UnknownPoint) (λ m.
     refuse_if (if calls_at f n then not (calls_at g m) else calls_at g m) c.KindDiffers (
     refuse_if (calls_at f n && not (same_number (match_of_callee link (callee_at f n)) (callee_at g m))) c.CalleeDiffers (
-    onward (ok_or (all_there (map (lifted_fill link (reads_beside link.old f) g.slots) fills)) c.BadExpr) (λ xs.
-    refuse_if (has_twice (map (λ x. x.slot) xs)) c.Twice (
-    Ok (by_number.Point i n m xs)))))))
+    onward (ok_or (one (option_map (part_at i m) (all_there (map (lifted_fill link (reads_beside link.old f) g.slots) fills)))) c.BadExpr) (λ xs.
+    refuse_if (list_any is_twice_filled xs) c.Twice (
+    Ok (by_number.Point i n xs)))))))
+
+-- the same where the places are those of the numbers of the functions
+abbrev by_sites : Link → ℕ → ℕ → Pt → List Fill → ℕ → List Site → Result LEntry EntryCause
+by_sites link a b point fills n sites =
+    refuse_if (kinds_differ link (site a n) sites) c.KindDiffers (
+    refuse_if (callees_differ link (site a n) sites) c.CalleeDiffers (
+    onward (ok_or (lifted_parts link a sites (match_part point fills ∷ [])) c.BadExpr) (λ xs.
+    refuse_if (list_any is_twice_filled xs) c.Twice (
+    Ok (by_number.Point a n xs)))))
+
+abbrev by_functions : Link → ℕ → ℕ → Pt → List Fill → Result LEntry EntryCause
+by_functions link a b point fills =
+    onward (ok_or (place_of (function_of link.old a) point) c.UnknownPoint) (λ n.
+    onward (ok_or (one (option_map (site b) (place_of (function_of link.new b) point))) c.UnknownPoint) (by_sites link a b point fills n))
+
+one_site : (i : ℕ) (o u : Option ℕ) (go : ℕ → List Site → Result LEntry EntryCause)
+    → onward (ok_or o c.UnknownPoint) (λ n. onward (ok_or (one (option_map (site i) u)) c.UnknownPoint) (go n))
+    ≡ onward (ok_or o c.UnknownPoint) (λ n. onward (ok_or u c.UnknownPoint) (λ m. go n (site i m ∷ [])))
+one_site i None u go = refl
+one_site i (Some n) None go = refl
+one_site i (Some n) (Some m) go = refl
 
 lifts : (p q : Lifted) (name : List ℕ) (i : ℕ) (f g : LFunction) (point : Pt) (fills : List Fill) → IsKeptFunction p q name i f g
     → lifted_entry (plain_link p q) (kept_point name point fills) ≡ between (plain_link p q) f g i point fills
 lifts p q name i f g point fills h =
     let link = plain_link p q in
-    ap (λ o. onward (ok_or o c.UnknownFunction) (λ a. onward (ok_or (match_at link.functions a) c.UnknownFunction) (λ b. between link (function_of p a) (function_of q b) a point fills))) h.found
-    ∙ (ap (λ o. onward (ok_or o c.UnknownFunction) (λ b. between link (function_of p i) (function_of q b) i point fills)) h.matches
+    ap (λ o. onward (ok_or o c.UnknownFunction) (λ a. onward (ok_or (match_at link.functions a) c.UnknownFunction) (λ b. by_functions link a b point fills))) h.found
+    ∙ (ap (λ o. onward (ok_or o c.UnknownFunction) (λ b. by_functions link i b point fills)) h.matches
+    ∙ (one_site i (place_of (function_of p i) point) (place_of (function_of q i) point) (by_sites link i i point fills)
     ∙ (ap (λ z. between link z (function_of q i) i point fills) h.old
-    ∙ ap (λ z. between link f z i point fills) h.new))
+    ∙ ap (λ z. between link f z i point fills) h.new)))
 
 -- The entries of one function.
 first_at_entry : (link : Link) → between link (first_lifted old_locals) (first_lifted new_locals) 0 entry_point [] ≡ Ok (kept_place 0 0 [])

@@ -1,6 +1,6 @@
 -- The text of the mapping is the canonical text of its entries.
 use Rattle.std.proofs.Common.{◌≡◌, ℕ, zero, suc, ◌+◌, ◌-◌, ◌≤◌, false, List, [], ◌∷◌, ◌++◌, refl, sym, ap, ◌∙◌, arith, codes, append_assoc, append-nil}
-use Rattle.std.specs.Prelude.{nat_le, if◌then◌else◌, unwrap_or}
+use Rattle.std.specs.Prelude.{nat_le, if◌then◌else◌}
 use Rattle.std.specs.Fmt.{decimal}
 use Rattle.std.specs.List.{flat_map, range_with_len}
 use Rattle.std.proofs.lemmas.Bool.Decides.{nat_tests}
@@ -29,14 +29,10 @@ abbrev line_between : Link → LFunction → LFunction → ℕ → List LFill �
 line_between link f g place values =
     codes "point " ++ f.name ++ 32 ∷ point_text (point_of f place) ++ codes " -> " ++ point_text (point_of g place) ++ fills_text (reads_beside link.old f) g.slots values ++ 59 ∷ 10 ∷ []
 
-line_is : (p q : Lifted) (name : List ℕ) (i : ℕ) (f g : LFunction) (place : ℕ) (values : List LFill) → IsKeptFunction p q name i f g
-    → line (plain_link p q) (kept_place i place values) ≡ line_between (plain_link p q) f g place values
-line_is p q name i f g place values h =
-    let link = plain_link p q in
-    ap (λ j. line_between link (function_of p i) (function_of q (unwrap_or j 0)) place values) h.matches
-    ∙ (ap (λ z. line_between link z (function_of q i) place values) h.old ∙ ap (λ z. line_between link f z place values) h.new)
-
 -- Texts that are put together, from the left or from the right.
+one_part : (a b c d : List ℕ) → a ++ (b ++ c ++ []) ++ d ≡ a ++ b ++ c ++ d
+one_part a b c d = ap (λ t. a ++ t ++ d) (append-nil (b ++ c)) ∙ ap (λ t. t ++ d) (sym (append_assoc a b c))
+
 six : (a b c d e f : List ℕ) → a ++ b ++ c ++ d ++ e ++ f ≡ a ++ (b ++ (c ++ (d ++ (e ++ f))))
 six a b c d e f =
     append_assoc (a ++ b ++ c ++ d) e f
@@ -49,6 +45,15 @@ fill_end : (d : List ℕ) → d ++ codes "; " ++ [] ++ codes "}" ++ codes ";\n" 
 fill_end d =
     ap (λ t. t ++ codes "}" ++ codes ";\n") (append-nil (d ++ codes "; "))
     ∙ (append_assoc (d ++ codes "; ") (codes "}") (codes ";\n") ∙ append_assoc d (codes "; ") (codes "};\n"))
+
+line_is : (p q : Lifted) (name : List ℕ) (i : ℕ) (f g : LFunction) (place : ℕ) (values : List LFill) → IsKeptFunction p q name i f g
+    → line (plain_link p q) (kept_place i place values) ≡ line_between (plain_link p q) f g place values
+line_is p q name i f g place values h =
+    let link = plain_link p q in
+    let a = function_of p i in
+    let b = function_of q i in
+    one_part (codes "point " ++ a.name ++ 32 ∷ point_text (point_of a place) ++ codes " -> ") (point_text (point_of b place)) (fills_text (reads_beside p a) b.slots values) (59 ∷ 10 ∷ [])
+    ∙ (ap (λ z. line_between link z b place values) h.old ∙ ap (λ z. line_between link f z place values) h.new)
 
 -- The lines of one function.
 first_entry : (link : Link) → line_between link (first_lifted old_locals) (first_lifted new_locals) 0 [] ≡ entry 1
