@@ -63,7 +63,7 @@ between link f g i point fills =
     refuse_if (list_any is_twice_filled xs) c.Twice (
     Ok (by_number.Point i n xs)))))))
 
--- the same where the places are those of the numbers of the functions
+-- what an entry of the functions a and b lifts to, once it is known where its part stands
 abbrev by_sites : Link → ℕ → ℕ → Pt → List Fill → ℕ → List Site → Result LEntry EntryCause
 by_sites link a b point fills n sites =
     refuse_if (kinds_differ link (site a n) sites) c.KindDiffers (
@@ -72,11 +72,13 @@ by_sites link a b point fills n sites =
     refuse_if (list_any is_twice_filled xs) c.Twice (
     Ok (by_number.Point a n xs)))))
 
+-- what an entry of the functions a and b lifts to
 abbrev by_functions : Link → ℕ → ℕ → Pt → List Fill → Result LEntry EntryCause
 by_functions link a b point fills =
     onward (ok_or (place_of (function_of link.old a) point) c.UnknownPoint) (λ n.
     onward (ok_or (one (option_map (site b) (place_of (function_of link.new b) point))) c.UnknownPoint) (by_sites link a b point fills n))
 
+-- where the one part stands
 one_site : (i : ℕ) (o u : Option ℕ) (go : ℕ → List Site → Result LEntry EntryCause)
     → onward (ok_or o c.UnknownPoint) (λ n. onward (ok_or (one (option_map (site i) u)) c.UnknownPoint) (go n))
     ≡ onward (ok_or o c.UnknownPoint) (λ n. onward (ok_or u c.UnknownPoint) (λ m. go n (site i m ∷ [])))
