@@ -143,16 +143,7 @@ fn lifted_point(
     let f = k.old().number(0, name).ok_or(EntryCause::UnknownFunction)?;
     let g = k.function(f).ok_or(EntryCause::UnknownFunction)?;
     let functions = functions_of(alloc, k, g, parts)?.ok_or(EntryCause::UnknownFunction)?;
-    point_of(
-        alloc,
-        k,
-        old,
-        new,
-        f,
-        from,
-        functions.as_slice(),
-        parts,
-    )
+    point_of(alloc, k, old, new, f, from, functions.as_slice(), parts)
 }
 
 /// An entry of a mapping by numbers, or its least cause, where no entry comes before it. The link

@@ -55,7 +55,11 @@ fn kind_differs(
     ensures { result ≡ suits.kind_differs k.now (seen from) (seen to) }
 {
     let is_call = is_call_at(new, to);
-    if is_call_at(old, from) { !is_call } else { is_call }
+    if is_call_at(old, from) {
+        !is_call
+    } else {
+        is_call
+    }
 }
 
 /// Whether the old place or the last new one is a call and the other is not.

@@ -1,5 +1,5 @@
 -- Each text is a mapping or has a first fault.
-use Rattle.std.proofs.Common.{◌≡◌, ℕ, ◌⊎◌, inl, inr, List, length, Option, Some, None, refl}
+use Rattle.std.proofs.Common.{◌≡◌, ℕ, inl, inr, List, length, Option, Some, None, refl}
 use Rattle.c_tree.specs.declared.cause.ReadCause.{ReadCause}
 use Rattle.c_tree.specs.declared.cause.ReadCause.TheVariants as cause
 use Rattle.c_tree.specs.declared.program.At.{At}

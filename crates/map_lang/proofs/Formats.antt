@@ -1,5 +1,5 @@
 -- The two grammars of mappings read the same where each point has one part.
-use Rattle.std.specs.Prelude.{ℕ, List, [], ◌∷◌, ◌++◌, Bool, true, false, ◌&&◌, not, cond, All, Result, Ok, Err, IfOk, MatchResult}
+use Rattle.std.specs.Prelude.{ℕ, List, [], ◌∷◌, ◌++◌, Bool, true, false, not, cond, Result, Ok, Err, IfOk, MatchResult}
 use Rattle.std.specs.List.{list_all}
 use Rattle.std.proofs.Common.{◌≡◌, ◌-◌, ◌⊎◌, inl, inr, refl, sym, ◌∙◌, ap, subst, arith}
 use Rattle.std.proofs.lemmas.List.Folds.{list_all-append}
@@ -19,7 +19,7 @@ use Rattle.c_grammar.specs.declared.symbol.Symbol.TheVariants.{Take, Unless, Act
 use Rattle.c_grammar.specs.declared.value.Value.{Value}
 use Rattle.c_grammar.specs.declared.value.Value.TheVariants as value
 use Rattle.c_grammar.specs.Marks.{keeps}
-use Rattle.c_grammar.specs.Effects.{State, with_token, effect, empty, value_effect}
+use Rattle.c_grammar.specs.Effects.{State, with_token, empty, value_effect}
 use Rattle.c_grammar.specs.Rules.{map_start, first_map_start}
 use Rattle.c_grammar.specs.Pieces.{Piece}
 use Rattle.c_grammar.specs.Reading.{Among, first, later, Whole, Goes, stop, end, take_token, pass, act, expand}
@@ -27,7 +27,7 @@ use Rattle.c_grammar.specs.Mapping.{map_pieces, IsFirstMappingOf}
 use Rattle.c_reader.specs.Choices.{choices}
 use Rattle.c_reader.specs.Depth.{least}
 use Rattle.c_reader.specs.Follow.{vanishes_end}
-use Rattle.c_reader.proofs.Bounded.{Bounded, bounded, done, takes_one, passes_on, acts, expands, goes_so}
+use Rattle.c_reader.proofs.Bounded.{Bounded, bounded, takes_one, passes_on, acts, expands, goes_so}
 use Rattle.c_reader.proofs.BoundedReads.{bounded_reads, none_left_out}
 use Rattle.c_reader.proofs.Choice.{both_left, both_right, and_true, all_of}
 use Rattle.c_reader.proofs.Sorts.{sort_of, kept_sort}

@@ -1,6 +1,6 @@
 -- Each mapping that is read has the form that its entries ask for: no action makes a point that is a plain place or a match
 -- of another kind, whatever it finds, and those that make the parts of a point make one to four.
-use Rattle.std.specs.Prelude.{◌≡◌, ◌≤◌, map, nat_lt, not, IsTrue, ⊤, ℕ, List, [], ◌∷◌, ◌++◌, Bool, true, false, cond, All, Result, Ok, Err, IfOk, MatchResult}
+use Rattle.std.specs.Prelude.{◌≡◌, map, nat_lt, not, IsTrue, ⊤, ℕ, List, [], ◌∷◌, ◌++◌, Bool, true, false, cond, All, Result, Ok, Err, IfOk, MatchResult}
 use Rattle.std.proofs.Common.{refl, sym, ◌∙◌, ap, subst, arith}
 use Rattle.std.proofs.lemmas.List.Elements.{All-nil, All-cons, All-push}
 use Rattle.c_tree.specs.declared.mapping.Entry.{Entry}

@@ -1,5 +1,5 @@
 -- An entry of a patch, from its text to an entry of a mapping that lifts to it again.
-use Rattle.std.proofs.Common.{◌≡◌, ℕ, suc, zero, ◌+◌, ◌≤◌, inl, Bool, true, false, List, [], ◌∷◌, ◌++◌, length, Option, Some, None, Result, Ok, refl, sym, ◌∙◌, ap, subst, arith, append_assoc}
+use Rattle.std.proofs.Common.{◌≡◌, ℕ, suc, zero, ◌+◌, ◌≤◌, inl, Bool, true, false, List, [], ◌∷◌, ◌++◌, length, Option, Some, None, Ok, refl, sym, ◌∙◌, ap, subst, arith, append_assoc}
 use Rattle.std.specs.Prelude.{map, codes, is_some, if◌then◌else◌, nat_lt, slice_get}
 use Rattle.std.specs.List.{list_any, AllZip, AllByRecursion}
 use Rattle.std.specs.Option.{ok_or, option_map}
@@ -7,7 +7,6 @@ use Rattle.std.proofs.lemmas.Option.{none-some, same_Some}
 use Rattle.std.proofs.lemmas.Bool.Decides.{nat_tests}
 use Rattle.std.proofs.lemmas.List.{length-map}
 use Rattle.std.proofs.lemmas.List.Elements.{recursion_from_All}
-use Rattle.c_tree.specs.declared.cause.EntryCause.{EntryCause}
 use Rattle.c_tree.specs.declared.cause.EntryCause.TheVariants as c
 use Rattle.c_tree.specs.declared.lifted.LExpr.{LExpr}
 use Rattle.c_tree.specs.declared.lifted.Lifted.{Lifted}
@@ -27,7 +26,7 @@ use Rattle.c_tree.specs.declared.mapping.LEntry.{LEntry}
 use Rattle.c_tree.specs.declared.mapping.LEntry.TheVariants as l
 use Rattle.c_tree.specs.Step.{function_of}
 use Rattle.c_tree.specs.MapForm.{IsAddedPart, AreReadParts}
-use Rattle.c_tree.specs.Refusal.{onward, refuse_if}
+use Rattle.c_tree.specs.Refusal.{onward}
 use Rattle.c_tree.specs.Names.{find_name, names_in, name_at, slot_names, field_name, struct_of}
 use Rattle.c_tree.specs.Points.{point_of}
 use Rattle.c_tree.specs.Link.{Link, origin}
@@ -61,7 +60,7 @@ use Rattle.read_back.proofs.Places.{point_found}
 use Rattle.read_back.proofs.Spelt.{named_of, spelling_of, CanSpell, can_spell, function_slots, struct_fields_spelt, names_spelt, name_of_number, function_named, slot_of_number}
 use Rattle.read_back.proofs.Fits.{fits}
 use Rattle.read_back.proofs.Joined.{four, five}
-use Rattle.read_back.proofs.Parts.{Part, after_part, part_as, part_does, part_of, acted, PushesWord, PushesExpr, spaced_arrow, spaced_equal, a_dot, a_blank, keyword, bare_word, a_name, a_new_name, an_expr}
+use Rattle.read_back.proofs.Parts.{Part, after_part, part_as, part_does, part_of, acted, PushesWord, PushesExpr, spaced_arrow, spaced_equal, a_dot, a_blank, keyword, bare_word, a_new_name, an_expr}
 use Rattle.read_back.proofs.Fills.{a_point, word_part, FillFits}
 use Rattle.read_back.proofs.PartTexts.{PartFits, AddedFits, all_parts}
 use Rattle.read_back.proofs.PointAgain.{sites_kept, filled_kept, point_again}

@@ -1,5 +1,5 @@
 -- What the actions make of the parts of entries.
-use Rattle.std.specs.Prelude.{◌≡◌, ◌≢◌, ◌&&◌, ℕ, ◌≤◌, nat_lt, not, length, Option, Some, None, IsTrue, Bool, true, false, List, [], ◌∷◌, All}
+use Rattle.std.specs.Prelude.{◌≡◌, ◌≢◌, ◌&&◌, ℕ, ◌≤◌, nat_lt, not, length, Some, None, IsTrue, Bool, true, false, List, [], ◌∷◌, All}
 use Rattle.std.specs.Str.{bytes_eq}
 use Rattle.std.specs.List.{list_all}
 use Rattle.std.proofs.Common.{refl, sym, ◌∙◌, ap, arith, cond}

@@ -1,5 +1,5 @@
 -- The parts of a point, from their text.
-use Rattle.std.proofs.Common.{◌≡◌, ℕ, ◌+◌, ◌≤◌, List, [], ◌∷◌, ◌++◌, length, Option, Some, None, refl, sym, ◌∙◌, ap, arith, append_assoc, append-nil}
+use Rattle.std.proofs.Common.{◌≡◌, ℕ, ◌+◌, ◌≤◌, List, [], ◌∷◌, ◌++◌, length, Option, Some, None, refl, ◌∙◌, ap, arith, append_assoc, append-nil}
 use Rattle.std.specs.Prelude.{codes}
 use Rattle.std.specs.List.{flat_map, AllZip, AllByRecursion}
 use Rattle.c_tree.specs.declared.mapping.Fill.{Fill}
@@ -9,7 +9,7 @@ use Rattle.c_tree.specs.declared.mapping.Pt.{Pt}
 use Rattle.c_tree.specs.declared.token.TokenKind.TheVariants as token
 use Rattle.c_tree.specs.Step.{function_of}
 use Rattle.c_tree.specs.Names.{find_name, names_in}
-use Rattle.c_tree.specs.Points.{place_of, point_of}
+use Rattle.c_tree.specs.Points.{place_of}
 use Rattle.c_tree.specs.Link.{Link}
 use Rattle.c_tree.specs.Suits.{reads_slots}
 use Rattle.c_tree.specs.Canonical.{point_text, fills_text, part_text, added_text, parts_text}
@@ -22,7 +22,7 @@ use Rattle.c_grammar.specs.declared.value.Value.{Value}
 use Rattle.c_grammar.specs.declared.value.Value.TheVariants as value
 use Rattle.c_grammar.specs.Effects.{value_effect}
 use Rattle.c_grammar.specs.Reading.{first, later}
-use Rattle.c_reader.specs.Spelling.{IsSpelt, CanBeSpelt}
+use Rattle.c_reader.specs.Spelling.{CanBeSpelt}
 use Rattle.read_back.specs.Kept.{IsKeptPoint}
 use Rattle.patch_laws.proofs.LiftedForms.{PartForm}
 use Rattle.patch_laws.proofs.Numbers.{number_at}

@@ -1,5 +1,5 @@
 -- A point whose parts lift to the same parts in order lifts to the point in order.
-use Rattle.std.proofs.Common.{◌≡◌, ℕ, Bool, false, List, [], ◌∷◌, Option, Some, Result, Ok, refl, sym, ◌∙◌, ap}
+use Rattle.std.proofs.Common.{◌≡◌, ℕ, false, List, [], ◌∷◌, Option, Some, Result, Ok, refl, ◌∙◌, ap}
 use Rattle.std.specs.Prelude.{map, ◌||◌}
 use Rattle.std.specs.List.{list_any, AllZip}
 use Rattle.std.specs.Option.{ok_or, option_map}
