@@ -14,7 +14,7 @@ use Rattle.c_tree.specs.declared.mapping.Mapping.{Mapping}
 use Rattle.c_tree.specs.Compute.{literals}
 use Rattle.c_tree.specs.MapForm.{IsReadPoint, IsAddedPart}
 use Rattle.read_back.specs.Kept.{IsKeptExpr, IsKeptPoint, IsKeptPart, IsKeptEntry, IsKept, between, name, number}
-use Rattle.load_laws.proofs.Programs.{node}
+use Rattle.load_laws.proofs.Programs.{function_name, node}
 use Rattle.load_laws.proofs.MappingEntries.{entry_point, loop_point, call_point, block_point, match_part, kept_point, fill_of, first_named, next_named, main_named, named_entries}
 
 -- the entries with an offset
@@ -39,10 +39,10 @@ none_kept : All (λ (x : Fill). IsKeptExpr x.expr) []
 none_kept = All-from_recursion (λ (x : Fill). IsKeptExpr x.expr) [] tt
 
 -- a point that goes to one part
-point_kept : (name : List ℕ) (point : Pt) (fills : List Fill) → IsReadPoint point → IsKeptPoint point → All (λ x. IsKeptExpr x.expr) fills → IsKeptEntry (kept_point name point fills)
-point_kept name point fills read h all = (
+point_kept : (f : List ℕ) (point : Pt) (fills : List Fill) → IsReadPoint point → IsKeptPoint point → All (λ x. IsKeptExpr x.expr) fills → IsKeptEntry (kept_point f point fills)
+point_kept f point fills read h all = (
   h,
-  (refl, read, omega arith, All-nil {P = IsAddedPart}),
+  (refl, read, omega arith, All-nil IsAddedPart),
   All-from_recursion IsKeptPart (match_part point fills ∷ []) ((h, all), tt),
 )
 
@@ -51,27 +51,27 @@ each_both [] ys a b = b
 each_both (x ∷ xs) ys a b = (a.0, each_both xs ys a.1 b)
 
 first_kept : AllByRecursion IsKeptEntry first_named
-first_kept = (point_kept _ entry_point [] refl refl none_kept, (point_kept _ loop_point (fill_of 1 ∷ []) refl (omega arith) (one_kept 1 (omega arith)), tt))
+first_kept = (point_kept (function_name 1) entry_point [] refl refl none_kept, (point_kept (function_name 1) loop_point (fill_of 1 ∷ []) refl (omega arith) (one_kept 1 (omega arith)), tt))
 
 next_kept : (k : ℕ) → k ≤ 1000 → AllByRecursion IsKeptEntry (next_named k)
 next_kept k small = (
-  point_kept _ entry_point [] refl refl none_kept,
+  point_kept (function_name k) entry_point [] refl refl none_kept,
   (
-    point_kept _ loop_point (fill_of k ∷ []) refl (omega arith) (one_kept k small),
-    (point_kept _ call_point (fill_of k ∷ []) refl (omega arith) (one_kept k small), tt),
+    point_kept (function_name k) loop_point (fill_of k ∷ []) refl (omega arith) (one_kept k small),
+    (point_kept (function_name k) call_point (fill_of k ∷ []) refl (omega arith) (one_kept k small), tt),
   ),
 )
 
 main_kept : AllByRecursion IsKeptEntry main_named
 main_kept = (
-  point_kept _ entry_point [] refl refl none_kept,
+  point_kept (codes "main") entry_point [] refl refl none_kept,
   (
-    point_kept _ (block_point 1) [] refl (omega arith) none_kept,
+    point_kept (codes "main") (block_point 1) [] refl (omega arith) none_kept,
     (
-      point_kept _ (block_point 2) [] refl (omega arith) none_kept,
+      point_kept (codes "main") (block_point 2) [] refl (omega arith) none_kept,
       (
-        point_kept _ (block_point 3) [] refl (omega arith) none_kept,
-        (point_kept _ (block_point 4) [] refl (omega arith) none_kept, tt),
+        point_kept (codes "main") (block_point 3) [] refl (omega arith) none_kept,
+        (point_kept (codes "main") (block_point 4) [] refl (omega arith) none_kept, tt),
       ),
     ),
   ),
