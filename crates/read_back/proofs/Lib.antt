@@ -11,14 +11,14 @@ mod Levels
 mod Forms
 mod ReadsBack
 -- from text to tokens
-mod Scan
+pub mod Scan
 mod Shown
 -- from numbers to numbers
 mod Numbering
 mod Spelt
 mod Fits
 mod Places
-mod Again
+pub mod Again
 mod PointAgain
 -- from an entry to its tokens
 mod Joined
@@ -27,5 +27,5 @@ mod Fills
 mod PartTexts
 mod Entries
 -- all of it
-mod Whole
+pub mod Whole
 mod Law

@@ -1,11 +1,17 @@
 -- The run of a load, from its texts to what it answers.
-use Rattle.std.proofs.Common.{◌≡◌, ◌∙◌, ℕ, ◌*◌, List, [], ◌∷◌, length, Some, None, sym, ap, subst, arith}
+use Rattle.std.proofs.Common.{◌≡◌, ◌∙◌, ℕ, ◌*◌, ◌≤◌, List, [], ◌∷◌, length, Some, None, sym, ap, subst, arith}
 use Rattle.std.specs.Prelude.{Result, Ok, Err, IfOk}
 use Rattle.std.specs.declared.alloc.AllocError.{AllocError}
 use Rattle.c_tree.specs.declared.lifted.Lifted.{Lifted}
 use Rattle.c_tree.specs.declared.mapping.LEntry.{LEntry}
 use Rattle.c_tree.specs.declared.mapping.Mapping.{Mapping}
 use Rattle.c_tree.specs.declared.mapping.Patch as made
+use Rattle.c_tree.specs.Entries.{Unsound}
+use Rattle.c_grammar.specs.Mapping.{IsMappingOf, OneMapAnswer}
+use Rattle.c_grammar.specs.Rules.{map_start}
+use Rattle.c_source.specs.Laws.{OneVerdict}
+use Rattle.c_source.specs.Source.{IsAccepted}
+use Rattle.load_laws.specs.Laws.{IsAcceptedLoad, LoadsAreAccepted}
 use Rattle.c_tree.specs.declared.run.Settings.{Settings}
 use Rattle.c_tree.specs.Plan.{IsPlanned}
 use Rattle.c_tree.specs.Run.{is_short}
@@ -16,7 +22,7 @@ use Rattle.world_core.specs.History.{History, IsRun, core, over}
 use Rattle.answers.specs.Answer as meant
 use Rattle.upstare_cmd.specs.Arming.{armed, begun_with}
 use Rattle.upstare_cmd.specs.Asked.{load_names}
-use Rattle.upstare_cmd.specs.Meaning.{LoadMeans, LoadTells, Loads, Means, entries_of, load_patch, load_settings, settings}
+use Rattle.upstare_cmd.specs.Meaning.{LoadMeans, LoadTells, Loads, Means, TextsMean, entries_of, entry_unsound, load_patch, load_settings, mapping_refused, new_refused, old_refused, patched, settings}
 use Rattle.upstare_cmd.specs.Parts.{OfEntries, OfTexts}
 use Rattle.reports.specs.Line as line
 use Rattle.answers.specs.Status.{code, status_of}
@@ -70,6 +76,52 @@ of_same n x y r is loads = subst (λ (z : made.Patch). IfOk r (λ a. Loads n (lo
 patch_is : (n : ℕ) (p q : Lifted) (m : Mapping) (x : made.Patch) → IsPatch (load.old_source n) p (load.new_source n) q m x → x ≡ load_patch n p q x.entries
 patch_is n p q m x is = λ i. record { old_text = is.old_text i; old = is.old i; new_text = is.new_text i; new = is.new i; entries = x.entries }
 
+-- What a load means by its three texts, which are judged as any others.
+abbrev pub LoadTextsMean : ℕ → meant.Answer → Type 0
+LoadTextsMean n a =
+    TextsMean load_names (load.old_source n) (load.new_source n) (load.mapping n) (λ p q entries x. Loads n (load_settings n (load_patch n p q entries)) x) a
+
+abbrev Entries : Type 0
+Entries = Result (List LEntry) Unsound
+
+no_ok : (es : List LEntry) (why : Unsound) → ◌≡◌ {A = Entries} (Ok es) (Err why) → ⊥
+no_ok es why e = cc
+
+same_ok : (es fs : List LEntry) → ◌≡◌ {A = Entries} (Ok es) (Ok fs) → es ≡ fs
+same_ok es fs e = cc
+
+-- the texts are accepted, so what they mean is their run
+pub accepted_means : OneVerdict → OneMapAnswer map_start → LoadsAreAccepted → (n : ℕ) → 1 ≤ n → n ≤ 1000 → (a : meant.Answer) → LoadTextsMean n a → LoadMeans n a
+accepted_means source mapping law n least most a means = go means
+  where
+    t : IsAcceptedLoad n
+    t = law n least most
+
+    -- what another reading of the texts comes to
+    come_to : (p q : Lifted) (m : Mapping) → IsAccepted (load.old_source n) p → IsAccepted (load.new_source n) q → IsMappingOf (load.mapping n) m
+        → (p ≡ t.old) × (q ≡ t.new) × (entries_of p q m ≡ Ok t.lifted)
+    come_to p q m old new read =
+        let olds = source.one_program (load.old_source n) p t.old old t.old_accepted in
+        let news = source.one_program (load.new_source n) q t.new new t.new_accepted in
+        let maps = mapping.one_mapping (load.mapping n) m t.entries read t.read in
+        (olds, news, ap (λ x. entries_of x q m) olds ∙ ap (λ x. entries_of t.old x m) news ∙ ap (λ x. entries_of t.old t.new x) maps ∙ t.sound)
+
+    go : LoadTextsMean n a → LoadMeans n a
+    go (old_refused at why is e) = absurd (source.never_both (load.old_source n) at t.old why t.old_accepted is)
+    go (new_refused p at why accepted is e) = absurd (source.never_both (load.new_source n) at t.new why t.new_accepted is)
+    go (mapping_refused p q at why old new is e) = absurd (mapping.never_both (load.mapping n) at t.entries why t.read is)
+    go (entry_unsound p q m why old new is come e) = absurd (no_ok t.lifted why (sym (come_to p q m old new is).2 ∙ come))
+    go (patched p q m entries old new is come runs) =
+        let same = come_to p q m old new is in
+        let lifted = same_ok entries t.lifted (sym come ∙ same.2) in
+        record {
+          texts = t;
+          loads =
+              subst (λ x. Loads n (load_settings n (load_patch n x t.new t.lifted)) a) same.0
+              (subst (λ x. Loads n (load_settings n (load_patch n p x t.lifted)) a) same.1
+              (subst (λ x. Loads n (load_settings n (load_patch n p q x)) a) lifted runs));
+        }
+
 -- what is said of the patch of a load's texts: its run
 abbrev Runs : ℕ → Lifted → Lifted → List LEntry → meant.Answer → Type 0
 Runs n p q entries a = Loads n (load_settings n (load_patch n p q entries)) a
@@ -82,7 +134,7 @@ loaded n x a p q m loads is =
 
 -- What a load means, where its texts have a patch.
 pub of_load : (n : ℕ) (old new text : List ℕ) (x : made.Patch) (r : Result Answer AllocError) → old ≡ load.old_source n → new ≡ load.new_source n → text ≡ load.mapping n
-    → inner.IsOfTexts load_names old new text (judged.Patch x) → IfOk r (λ a. Loads n (load_settings n x) (view.answer a)) → IfOk r (λ a. LoadMeans n (view.answer a))
+    → inner.IsOfTexts load_names old new text (judged.Patch x) → IfOk r (λ a. Loads n (load_settings n x) (view.answer a)) → IfOk r (λ a. LoadTextsMean n (view.answer a))
 of_load n old new text x (Ok y) a b c of loads =
     let texts : inner.IsOfTexts load_names (load.old_source n) (load.new_source n) (load.mapping n) (judged.Patch x) =
     subst (λ s. inner.IsOfTexts load_names s (load.new_source n) (load.mapping n) (judged.Patch x)) a
@@ -95,7 +147,7 @@ of_load n old new text x (Err e) a b c of loads = tt
 
 -- What a load means, where one of its texts is refused.
 pub of_refused_load : (n : ℕ) (old new text : List ℕ) (y : meant.Answer) → old ≡ load.old_source n → new ≡ load.new_source n → text ≡ load.mapping n
-    → OfTexts load_names old new text (λ p q r. inner.TurnsDownEntries load_names.map r y) y → LoadMeans n y
+    → OfTexts load_names old new text (λ p q r. inner.TurnsDownEntries load_names.map r y) y → LoadTextsMean n y
 of_refused_load n old new text y a b c down =
     let Down : List ℕ → List ℕ → List ℕ → Type 0 = λ s t u. OfTexts load_names s t u (λ p q r. inner.TurnsDownEntries load_names.map r y) y in
     texts_mean load_names (load.old_source n) (load.new_source n) (load.mapping n) (Runs n) y

@@ -9,11 +9,10 @@ use Rattle.c_tree.specs.declared.run.End.{End}
 use Rattle.c_tree.specs.declared.run.End.TheVariants as end
 use Rattle.c_tree.specs.declared.run.Settings.{Settings}
 use Rattle.c_tree.specs.Canonical.{canonical_text}
-use Rattle.load_texts.specs.Texts as load
 use Rattle.patch_form.specs.Framing.{framed}
 use Rattle.command_line.specs.Command.{Command, Usage, Check, Points, Transform, Run, RunWords, UpdateWords, Patch, PatchWords, Upgrade, UpgradeWords, Load}
 use Rattle.answers.specs.Answer.{Answer, Piece, ToOut, ToFile}
-use Rattle.upstare_cmd.specs.Asked.{TextNames, load_names, named, names_of, outputs, run_files, update_files, wanted}
+use Rattle.upstare_cmd.specs.Asked.{TextNames, named, names_of, outputs, run_files, update_files, wanted}
 use Rattle.answers.specs.Wanted.{Wanted, input_file, map_file, patch_file, schedule_file, source_file}
 use Rattle.upstare_cmd.specs.Causes.{IsProper, is_of_texts, is_refusal}
 use Rattle.answers.specs.Writes.{WritesOnly}
@@ -134,8 +133,7 @@ proper (Patch w) (x ∷ y ∷ z ∷ u ∷ rest) a meant = absurd meant
 proper (Upgrade w) [] a meant = absurd meant
 proper (Upgrade w) (bytes ∷ []) a meant = upgrade_proper w bytes a meant
 proper (Upgrade w) (x ∷ y ∷ rest) a meant = absurd meant
-proper (Load n) [] a meant =
-    texts_proper (Load n) load_names (load.old_source n) (load.new_source n) (load.mapping n) _ a (λ p q entries is. loads_proper n (load_settings n (load_patch n p q entries)) a is) meant
+proper (Load n) [] a meant = loads_proper n (load_settings n (load_patch n meant.texts.old meant.texts.new meant.texts.lifted)) a meant.loads
 proper (Load n) (x ∷ rest) a meant = absurd meant
 
 -- an answer that may be meant, and says nothing of texts

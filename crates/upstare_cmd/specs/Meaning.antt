@@ -24,13 +24,14 @@ use Rattle.command_line.specs.Command.{Command, Usage, Check, Points, Transform,
 use Rattle.command_line.specs.Options as options
 use Rattle.frame_transform.specs.TargetText.{target_text}
 use Rattle.history.specs.Listing.{IsListing}
+use Rattle.load_laws.specs.Laws.{IsAcceptedLoad}
 use Rattle.load_texts.specs.Texts as load
 use Rattle.patch_file.specs.Refused.{IsFileRefused, IsFirstDifference}
 use Rattle.patch_file.specs.Whole.{IsFileOf, file_of}
 use Rattle.patch_form.specs.Framing.{framed}
 use Rattle.world_core.specs.History.{core}
 use Rattle.answers.specs.Answer.{Answer}
-use Rattle.upstare_cmd.specs.Asked.{TextNames, load_names, names_of}
+use Rattle.upstare_cmd.specs.Asked.{TextNames, names_of}
 use Rattle.answers.specs.Refusals as refusal
 use Rattle.upstare_cmd.specs.Replies as reply
 use Rattle.upstare_cmd.specs.Update.{update_words}
@@ -169,10 +170,10 @@ LoadTells k n events a =
 abbrev pub Loads : ℕ → Settings → Answer → Type 0
 Loads n k a = (events : List Event) × IsPlanned k (was_short k events) (picker.Round None) events × LoadTells k n events a
 
--- A load is the run of its three texts' patch, which is made as any other.
-abbrev pub LoadMeans : ℕ → Answer → Type 0
-LoadMeans n a =
-    TextsMean load_names (load.old_source n) (load.new_source n) (load.mapping n) (λ p q entries x. Loads n (load_settings n (load_patch n p q entries)) x) a
+-- A load is the run of the patch of its three texts, which are accepted.
+pub record LoadMeans (n : ℕ) (a : Answer) : Type 0 where
+  pub texts : IsAcceptedLoad n
+  pub loads : Loads n (load_settings n (load_patch n texts.old texts.new texts.lifted)) a
 
 -- What a command means, once these texts were read.
 abbrev pub Means : Command → List (List ℕ) → Answer → Type 0

@@ -11,8 +11,11 @@ use crate::judged::{Judged, TextNames, texts_judged};
 use crate::run::started;
 use crate::told::update_words;
 use answers::{Answer, Piece, status_of};
+use c_grammar::a_mapping_has_one_answer;
+use c_source::a_source_has_one_verdict;
 use c_tree::{End, Patch, Row, Text};
 use drive::drive_round;
+use load_laws::loads_are_accepted;
 use load_texts::{mapping, mappings_are_short, new_source, old_source, request_at};
 use patch_maker::SoundPatch;
 use reports::line;
@@ -86,10 +89,14 @@ fn sound_loaded(alloc: Global, n: u32, patch: SoundPatch) -> Result<Answer, Allo
 
 /// What `load` answers.
 pub fn load_meant(alloc: Global, n: u32) -> Result<Answer, AllocError>
-    requires { n ≤ 1000 }
+    requires least { 1 ≤ n }
+    requires most { n ≤ 1000 }
     ensures { IfOk result (λ a. meaning.LoadMeans n (view.answer a)) }
 {
     mappings_are_short();
+    loads_are_accepted();
+    a_source_has_one_verdict();
+    a_mapping_has_one_answer();
     let old = old_source(alloc, n)?;
     let new = new_source(alloc, n)?;
     let map = mapping(alloc, n)?;
