@@ -1,5 +1,5 @@
 -- An entry has as many parts by numbers as by names.
-use Rattle.std.proofs.Common.{◌≡◌, ◌∙◌, ℕ, Bool, true, false, List, [], ◌∷◌, length, map, Ok, refl, sym, ap, subst}
+use Rattle.std.proofs.Common.{◌≡◌, ◌∙◌, ℕ, suc, Bool, true, false, List, [], ◌∷◌, length, map, Ok, refl, sym, ap, subst}
 use Rattle.std.specs.Prelude.{◌==◌, ◌&&◌, All, Result}
 use Rattle.std.specs.List.{list_all, AllZip, AllByRecursion}
 use Rattle.std.proofs.lemmas.Bool.{and_from, and_parts, eqb-true, eq-eqb}
@@ -24,24 +24,24 @@ use Rattle.patch_laws.proofs.Sorting.{sorted_all}
 use Rattle.patch_file.specs.Formats.{HasOnePart}
 
 -- how many parts an entry has, by names and by numbers; one that is no point has one
-named_parts : Entry → ℕ
+abbrev named_parts : Entry → ℕ
 named_parts (n.Point f from parts) = length parts
 named_parts (n.Match i a b) = 1
 named_parts (n.Field s f x) = 1
 named_parts (n.Init g x) = 1
 named_parts (n.Check x) = 1
 
-numbered_parts : LEntry → ℕ
+abbrev numbered_parts : LEntry → ℕ
 numbered_parts (l.Point f p parts) = length parts
 numbered_parts (l.Match i a b) = 1
 numbered_parts (l.Field s i x) = 1
 numbered_parts (l.Init g x) = 1
 numbered_parts (l.Check x) = 1
 
-named_is : At Entry → Bool
+abbrev named_is : At Entry → Bool
 named_is x = named_parts x.it == 1
 
-numbered_is : LEntry → Bool
+abbrev numbered_is : LEntry → Bool
 numbered_is y = numbered_parts y == 1
 
 -- lists that are beside each other are as long
@@ -49,7 +49,7 @@ as_long : {A B : Type 0} (R : A → B → Type 0) (xs : List A) (ys : List B) �
 as_long R [] [] beside = refl
 as_long R [] (y ∷ ys) beside = absurd beside
 as_long R (x ∷ xs) [] beside = absurd beside
-as_long R (x ∷ xs) (y ∷ ys) beside = ap (λ k. k + 1) (as_long R xs ys beside.1)
+as_long R (x ∷ xs) (y ∷ ys) beside = ap suc (as_long R xs ys beside.1)
 
 lifted_parts : (k : Link) (x : Entry) (y : LEntry) → lifted_entry k x ≡ Ok y → named_parts x ≡ numbered_parts y
 lifted_parts k (n.Match i a b) y e = ap numbered_parts (entry_form k (n.Match i a b) y e).is
@@ -72,7 +72,7 @@ ordered_parts : (y : LEntry) → numbered_is (with_fills_in_order y) ≡ numbere
 ordered_parts (l.Match i a b) = refl
 ordered_parts (l.Field s i x) = refl
 ordered_parts (l.Init g x) = refl
-ordered_parts (l.Point f p parts) = ap (λ c. c == 1) (length-map part_in_order parts)
+ordered_parts (l.Point f p parts) = ap (λ c. c == 1) (length-map parts part_in_order)
 ordered_parts (l.Check x) = refl
 
 all_ordered : (ys : List LEntry) → list_all numbered_is (map with_fills_in_order ys) ≡ list_all numbered_is ys
