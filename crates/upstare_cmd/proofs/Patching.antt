@@ -8,6 +8,7 @@ use Rattle.c_tree.specs.declared.mapping.Mapping.{Mapping}
 use Rattle.c_tree.specs.declared.mapping.Patch as made
 use Rattle.c_tree.specs.Canonical.{canonical_text}
 use Rattle.patch_file.specs.Whole.{file_of}
+use Rattle.patch_form.specs.declared.format.Format.TheVariants.{Two}
 use Rattle.patch_form.specs.Framing.{framed}
 use Rattle.patch_maker.specs.Made.{IsPatch}
 use Rattle.answers.specs.Answer.{Answer}
@@ -24,16 +25,16 @@ use Rattle.upstare_cmd.proofs.Meant.{texts_mean}
 use Rattle.command_line.specs.Command.{Patch as ToPatch, PatchWords}
 
 -- the bytes of a patch of two texts, by their programs and the entries of a mapping
-file_is : (a b : List ℕ) (p q : Lifted) (m : Mapping) (x : made.Patch) → IsPatch a p b q m x → file_of x ≡ framed a b (canonical_text p q x.entries)
+file_is : (a b : List ℕ) (p q : Lifted) (m : Mapping) (x : made.Patch) → IsPatch a p b q m x → file_of x ≡ framed Two a b (canonical_text p q x.entries)
 file_is a b p q m x is =
-    ap (λ t. framed t x.new_text (canonical_text x.old x.new x.entries)) is.old_text
-    ∙ ap (λ t. framed a t (canonical_text x.old x.new x.entries)) is.new_text
-    ∙ ap (λ o. framed a b (canonical_text o x.new x.entries)) is.old
-    ∙ ap (λ n. framed a b (canonical_text p n x.entries)) is.new
+    ap (λ t. framed Two t x.new_text (canonical_text x.old x.new x.entries)) is.old_text
+    ∙ ap (λ t. framed Two a t (canonical_text x.old x.new x.entries)) is.new_text
+    ∙ ap (λ o. framed Two a b (canonical_text o x.new x.entries)) is.old
+    ∙ ap (λ n. framed Two a b (canonical_text p n x.entries)) is.new
 
 -- what is answered of a patch is the file of its texts and entries
 abbrev Puts : PatchWords → List ℕ → List ℕ → Lifted → Lifted → List LEntry → Answer → Type 0
-Puts words a b p q entries y = y ≡ put_patch words.output (framed a b (canonical_text p q entries))
+Puts words a b p q entries y = y ≡ put_patch words.output (framed Two a b (canonical_text p q entries))
 
 puts : (words : PatchWords) (a b : List ℕ) (x : made.Patch) (p q : Lifted) (m : Mapping) (y : Answer) → IsPatch a p b q m x → y ≡ put_patch words.output (file_of x)
     → OfEntries words.map (λ entries. Puts words a b p q entries y) (entries_of p q m) y

@@ -9,6 +9,7 @@ use Rattle.c_tree.specs.declared.run.End.{End}
 use Rattle.c_tree.specs.declared.run.End.TheVariants as end
 use Rattle.c_tree.specs.declared.run.Settings.{Settings}
 use Rattle.c_tree.specs.Canonical.{canonical_text}
+use Rattle.patch_form.specs.declared.format.Format.TheVariants.{Two}
 use Rattle.patch_form.specs.Framing.{framed}
 use Rattle.command_line.specs.Command.{Command, Usage, Check, Points, Transform, Run, RunWords, UpdateWords, Patch, PatchWords, Upgrade, UpgradeWords, Load}
 use Rattle.answers.specs.Answer.{Answer, Piece, ToOut, ToFile}
@@ -128,7 +129,7 @@ proper (Patch w) (x ∷ []) a meant = absurd meant
 proper (Patch w) (x ∷ y ∷ []) a meant = absurd meant
 proper (Patch w) (old ∷ new ∷ mapping ∷ []) a meant =
     texts_proper (Patch w) (names_of w) old new mapping _ a
-    (λ p q entries is. subst (IsProper (Patch w)) (sym is) (put_proper w (framed old new (canonical_text p q entries)))) meant
+    (λ p q entries is. subst (IsProper (Patch w)) (sym is) (put_proper w (framed Two old new (canonical_text p q entries)))) meant
 proper (Patch w) (x ∷ y ∷ z ∷ u ∷ rest) a meant = absurd meant
 proper (Upgrade w) [] a meant = absurd meant
 proper (Upgrade w) (bytes ∷ []) a meant = upgrade_proper w bytes a meant

@@ -28,6 +28,7 @@ use Rattle.load_laws.specs.Laws.{IsAcceptedLoad}
 use Rattle.load_texts.specs.Texts as load
 use Rattle.patch_file.specs.Refused.{IsFileRefused, IsFirstDifference}
 use Rattle.patch_file.specs.Whole.{IsFileOf, file_of}
+use Rattle.patch_form.specs.declared.format.Format.TheVariants.{Two}
 use Rattle.patch_form.specs.Framing.{framed}
 use Rattle.world_core.specs.History.{core}
 use Rattle.answers.specs.Answer.{Answer}
@@ -60,7 +61,7 @@ pub data TextsMean (names : TextNames) (old new mapping : List ℕ) (Says : Lift
 -- The file of a patch holds the three texts, the mapping as its canonical text.
 abbrev pub PatchMeans : PatchWords → List ℕ → List ℕ → List ℕ → Answer → Type 0
 PatchMeans words old new mapping a =
-    TextsMean (names_of words) old new mapping (λ p q entries x. x ≡ reply.put_patch words.output (framed old new (canonical_text p q entries))) a
+    TextsMean (names_of words) old new mapping (λ p q entries x. x ≡ reply.put_patch words.output (framed Two old new (canonical_text p q entries))) a
 
 -- What a command means that puts a patch's file in the newest format: the file is refused, or the same patch is put.
 pub data UpgradeMeans (words : UpgradeWords) (bytes : List ℕ) (a : Answer) : Type 0 where
