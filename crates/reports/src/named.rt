@@ -142,7 +142,8 @@ pub fn append_slot(
     slot: u32,
     out: &mut Vec<u8>,
 ) -> Result<(), AllocError>
-    ensures { OnOk result (out.new.items ≡ out.old.items ++ spec.slot link.now entries.now at slot) }
+    ensures { OnOk result
+        (out.new.items ≡ out.old.items ++ spec.slot link.now entries.now at slot) }
 {
     out.extend_from_slice(slot_of(link, entries, at, slot))
 }

@@ -129,7 +129,8 @@ fn append_reason(
     out: &mut Vec<u8>,
 ) -> Result<(), AllocError>
     requires { KeepsLimit link.now.old }
-    ensures { OnOk result (out.new.items ≡ out.old.items ++ spec.reason link.now entries.now at reason) }
+    ensures { OnOk result
+        (out.new.items ≡ out.old.items ++ spec.reason link.now entries.now at reason) }
 {
     match reason {
         Reason::Unmapped(thread, frame) => {

@@ -48,8 +48,8 @@ pub fn deep_stack(m: &FrameMap<'_, '_>, thread: u32, frames: &[Frame]) -> Option
 }
 
 /// The new frames of an old thread, outermost first, as its old ones. Refused is the first frame
-/// that has no map, else a new stack that is too deep, else the first slot that traps. More than 4,294,967,296 frames count as want of
-/// memory.
+/// that has no map, else a new stack that is too deep, else the first slot that traps. More than
+/// 4,294,967,296 frames count as want of memory.
 pub fn map_stack(
     alloc: Global,
     m: &FrameMap<'_, '_>,

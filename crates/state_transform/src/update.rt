@@ -23,8 +23,8 @@ use stack_map::{
 };
 use std::alloc::{AllocError, Global};
 
-/// What is refused before any new value is computed: a frame without a map, then a stack that is too
-/// deep, then a held mutex and an object without a match, then a check.
+/// What is refused before any new value is computed: a frame without a map, then a stack that is
+/// too deep, then a held mutex and an object without a match, then a check.
 fn refusal(m: &FrameMap<'_, '_>, state: &State) -> Result<Option<Reason>, AllocError>
     ensures { IfOk result (λ r. r ≡ spec.refusal m.now.link.now m.now.entries.now state.now) }
 {
