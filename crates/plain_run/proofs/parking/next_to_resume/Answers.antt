@@ -2,9 +2,9 @@ use Rattle.std.proofs.Common.{◌<◌, ◌≡◌, [], length, rules, ap, sym, �
 use Rattle.std.specs.Prelude.{◌==◌}
 use Rattle.std.specs.List.{list_any}
 use Rattle.c_tree.specs.Run as r
-use Rattle.world_core.specs.CoreAt.{core_at}
-use Rattle.world_core.proofs.FindLemmas.{both_false, no_items, none-pass, find-more, found}
-use Rattle.world_core.proofs.parking.next_to_resume.Goals as goal
+use Rattle.plain_run.specs.CoreAt.{core_at}
+use Rattle.plain_run.proofs.FindLemmas.{both_false, no_items, none-pass, find-more, found}
+use Rattle.plain_run.proofs.parking.next_to_resume.Goals as goal
 
 pub returns-then-is_empty : goal.returns-then-is_empty
 returns-then-is_empty c =

@@ -1,7 +1,7 @@
 //! What a refusal names in the old state.
 
 ghost use Rattle.std.specs.Prelude.{◌≡◌, ◌+◌};
-ghost use Rattle.world_core.specs.Refused as spec;
+ghost use Rattle.plain_run.specs.Named as spec;
 
 use c_tree::{Reason, State};
 

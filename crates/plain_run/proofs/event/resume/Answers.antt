@@ -1,9 +1,9 @@
 use Rattle.std.proofs.Common.{not, ap, rules, tests}
 use Rattle.std.specs.Prelude.{◌==◌}
 use Rattle.c_tree.specs.Run.{Core}
-use Rattle.world_core.specs.CoreAt.{core_at}
-use Rattle.world_core.proofs.RetainLemmas.{retained}
-use Rattle.world_core.proofs.parking.unpark.Goals as goal
+use Rattle.plain_run.specs.CoreAt.{core_at}
+use Rattle.plain_run.proofs.RetainLemmas.{retained}
+use Rattle.plain_run.proofs.parking.unpark.Goals as goal
 
 pub returns : goal.returns
 returns c p =

@@ -3,9 +3,9 @@ use Rattle.std.specs.Prelude.{◌==◌}
 use Rattle.std.specs.List.{list_any}
 use Rattle.c_tree.specs.Run as r
 use Rattle.c_tree.specs.Step.{is_live}
-use Rattle.world_core.specs.CoreAt.{core_at}
-use Rattle.world_core.proofs.FindLemmas.{both_false, live-fails, live-more}
-use Rattle.world_core.proofs.parking.may_decide.Goals as goal
+use Rattle.plain_run.specs.CoreAt.{core_at}
+use Rattle.plain_run.proofs.FindLemmas.{both_false, live-fails, live-more}
+use Rattle.plain_run.proofs.parking.may_decide.Goals as goal
 
 pub returns-then-is_loose : goal.returns-then-is_loose
 returns-then-is_loose c =

@@ -1,17 +1,15 @@
 //! Which threads may be parked and resumed, and when the outcome may come.
 
-ghost use Rattle.std.specs.Prelude.{◌≡◌, ◌≤◌, ◌==◌, ◌&&◌, ◌∷◌, not, map, length, find, OnOk, OnErr};
+ghost use Rattle.std.specs.Prelude.{◌≡◌, ◌≤◌, ◌==◌, ◌&&◌, not, map, length, find};
 ghost use Rattle.c_tree.specs.Layout as layout;
 ghost use Rattle.c_tree.specs.Run as run;
 ghost use Rattle.c_tree.specs.Step as step;
 ghost use Rattle.std.specs.List.{list_any};
-ghost use Rattle.world_core.specs.CoreAt.{core_at};
-ghost use Rattle.c_tree.specs.declared.lifted.Lifted.{Lifted};
+ghost use Rattle.plain_run.specs.CoreAt.{core_at};
 
 use crate::now::{Now, is_after, is_asked, is_parked};
 use c_meaning::able::standing;
 use c_tree::{Lifted, Places, State};
-use std::alloc::AllocError;
 
 /// Whether the thread may be parked, where the run isn't over.
 pub fn may_park(program: &Lifted, places: &Places, now: &Now, t: u32) -> bool
@@ -99,24 +97,4 @@ pub fn may_decide(program: &Lifted, now: &Now) -> bool
         }
     }
     true
-}
-
-/// Adds a thread to those that are parked. Where memory is short all stays.
-pub fn park(now: &mut Now, t: u32) -> Result<(), AllocError>
-    ensures ok { OnOk result ((p : Lifted) → core_at p now.new
-        ≡ record (core_at p now.old) { parked = t ∷ now.old.parked.items }) }
-    ensures err { OnErr result ((p : Lifted) → core_at p now.new ≡ core_at p now.old) }
-{
-    match now.parked.insert(0, t) {
-        Ok(()) => Ok(()),
-        Err(_) => Err(AllocError),
-    }
-}
-
-/// Takes a thread away from those that are parked.
-pub fn unpark(now: &mut Now, t: u32)
-    ensures { (p : Lifted) → core_at p now.new
-        ≡ record (core_at p now.old) { parked = run.without t now.old.parked.items } }
-{
-    now.parked.retain(|u| *u != t);
 }

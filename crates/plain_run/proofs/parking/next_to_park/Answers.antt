@@ -1,8 +1,8 @@
 use Rattle.std.proofs.Common.{◌<◌, length, sym, ◌∙◌, arith}
 use Rattle.c_tree.specs.Run as r
-use Rattle.world_core.specs.CoreAt.{core_at}
-use Rattle.world_core.proofs.FindLemmas.{none-pass, not_first, find-more, found}
-use Rattle.world_core.proofs.parking.next_to_park.Goals as goal
+use Rattle.plain_run.specs.CoreAt.{core_at}
+use Rattle.plain_run.proofs.FindLemmas.{none-pass, not_first, find-more, found}
+use Rattle.plain_run.proofs.parking.next_to_park.Goals as goal
 
 pub returns-then-not-is_asked : goal.returns-then-not-is_asked
 returns-then-not-is_asked c =

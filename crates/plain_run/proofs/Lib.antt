@@ -1,0 +1,9 @@
+pub mod FindLemmas
+pub mod RetainLemmas
+pub mod NextLemmas
+pub mod StopLemmas
+pub mod ReasonLemmas
+pub mod ThreadsKept
+pub mod UnlikeLemmas
+pub mod EventLemmas
+pub mod OutcomeLemmas
