@@ -7,11 +7,11 @@
 
 pub mod decision;
 pub mod event;
-pub mod make;
+mod making;
 pub mod named;
 pub mod now;
 pub mod parking;
 
 pub use decision::{Committed, Decision, decide, settle};
-pub use make::make;
+pub use making::make;
 pub use now::Now;

@@ -1,9 +1,8 @@
 //! The world: a run whose state is what its events lead to.
 
-ghost use Rattle.std.specs.Prelude.{◌≡◌, ◌≤◌, ◌<◌, ◌+◌, IsTrue, IfOk, IfSome, OnOk, OnErr, map, length};
+ghost use Rattle.std.specs.Prelude.{◌≡◌, ◌≤◌, ◌<◌, ◌+◌, IsTrue, IfOk, IfSome, OnOk, OnErr, length};
 ghost use Rattle.std.specs.Option.{option_map};
 ghost use Rattle.c_tree.specs.Able.{able, standing};
-ghost use Rattle.c_tree.specs.Layout as layout;
 ghost use Rattle.c_tree.specs.Run.{stepped};
 ghost use Rattle.c_tree.specs.Sound.{Sound};
 ghost use Rattle.c_tree.specs.Step.{step};
@@ -17,16 +16,21 @@ mod gate;
 mod may;
 mod update;
 
-use crate::now::{Now, over, owed, present, step_now};
 use crate::outcome::{Outcome, how_far};
+use crate::part::Part;
 use c_meaning::able::{able, standing};
 use c_places::places;
 use c_tree::{End, Event, EventKind, Lifted, Patch, Phase, Places, Row, Settings, State, Text};
+use plain_run::Now;
+use plain_run::event::step;
+use plain_run::now::{over, owed, present};
 use std::alloc::{AllocError, Global};
 use std::marker::Model;
 
 /// A run. Contracts see what it was given and its events.
 pub struct World {
+    /// The parts before the present one.
+    earlier: Row<Part>,
     settings: Settings,
     places: Places,
     events: Vec<Event>,
@@ -38,6 +42,7 @@ pub struct World {
 impl Drop for World {
     fn drop(self) {
         let World {
+            earlier: _,
             settings: _,
             places: _,
             events: _,
@@ -50,11 +55,11 @@ impl Drop for World {
 impl Model for World {
     ghost use Rattle.world_core.specs.History.{History};
     ghost use Rattle.std.specs.Coded.{codes};
-    ghost use Rattle.c_tree.specs.contracts.run.Settings as given;
+    ghost use Rattle.world_core.specs.contracts.part.Part as part;
 
     ghost Value = { History };
 
-    ghost coded = { Prim.hlevel (codes, given.the_row.coded) };
+    ghost coded = { Prim.hlevel (codes, part.the_row.coded) };
 
     ghost use Rattle.world_core.specs.Sound.{history_of, IsSound};
 
@@ -92,6 +97,7 @@ impl World {
         };
         let events = Vec::new(alloc);
         Ok(World {
+            earlier: Row::from_vec(Vec::new(alloc)),
             settings,
             places,
             events,
@@ -211,6 +217,7 @@ impl World {
         ensures legal { IsRun self }
     {
         let World {
+            earlier: _earlier,
             settings: _settings,
             places: _places,
             events,
@@ -233,8 +240,7 @@ impl World {
     {
         self.events.reserve(owed(&self.here) + 1)?;
         let alloc = *self.events.allocator();
-        let program = present(&self.settings, self.here.phase);
-        step_now(alloc, program, &self.places, &mut self.here, t)?;
+        step(alloc, &self.settings, &self.places, &mut self.here, t)?;
         self.events.push_reserved(Event {
             worker,
             kind: EventKind::Step(t),

@@ -7,9 +7,9 @@ ghost use Rattle.c_places.specs.Limit.{KeepsLimit};
 ghost use Rattle.world_core.specs.History.{armed_with, may_park, may_request, may_resume, IsMade};
 
 use super::World;
-use crate::now::owed;
-use crate::parking::{park, unpark};
-use c_tree::{Armed, Event, EventKind, Patch, Phase};
+use c_tree::{Armed, Event, EventKind, Patch};
+use plain_run::event::{park, request, resume};
+use plain_run::now::owed;
 use std::alloc::AllocError;
 
 impl World {
@@ -35,7 +35,7 @@ impl World {
         ensures err { OnErr result (self.new ≡ self.old) }
     {
         self.events.reserve(owed(&self.here) + 2)?;
-        self.here.phase = Phase::Asked;
+        request(&mut self.here);
         self.events.push_reserved(Event {
             worker,
             kind: EventKind::Request,
@@ -65,7 +65,7 @@ impl World {
         requires { IsTrue (may_resume self.old t) }
         ensures { IsMade self.old self.new worker (e.Resume t) }
     {
-        unpark(&mut self.here, t);
+        resume(&mut self.here, t);
         self.events.push_reserved(Event {
             worker,
             kind: EventKind::Resume(t),

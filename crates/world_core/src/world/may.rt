@@ -5,8 +5,8 @@ ghost use Rattle.c_tree.specs.Run as r;
 ghost use Rattle.world_core.specs.History.{core, over, may_turn, may_request, may_park, may_commit, may_resume};
 
 use super::World;
-use crate::now::{is_due, may_step, present};
-use crate::parking::{may_decide, may_park, may_resume, next_to_park, next_to_resume};
+use plain_run::now::{is_due, may_step, present};
+use plain_run::parking::{may_decide, may_park, may_resume, next_to_park, next_to_resume};
 
 impl World {
     /// Whether a Step of the thread is legal.

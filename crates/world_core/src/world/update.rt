@@ -4,15 +4,14 @@ ghost use Rattle.std.specs.Prelude.{◌≡◌, ◌≢◌, IsTrue, IfOk};
 ghost use Rattle.c_tree.specs.Plan as plan;
 ghost use Rattle.c_tree.specs.declared.event.EventKind.TheVariants as e;
 ghost use Rattle.c_tree.specs.declared.event.Reason.TheVariants as why;
-ghost use Rattle.world_core.specs.Decision.{is_short, kind_decided, kind_of, IsDecision, IsReason, IsUpdate, Stays};
+ghost use Rattle.plain_run.specs.Decision.{is_short, kind_decided, kind_of, IsDecision, IsReason, IsUpdate, Stays};
 ghost use Rattle.world_core.specs.History.{core, may_commit, IsMade};
 
 use super::World;
-use crate::decision::{Committed, Decision, committed_by, reason_of};
-use crate::named::named_in;
-use c_places::places;
-use c_tree::{Event, EventKind, Phase, Places, Reason};
-use state_transform::{Parts, updated};
+use c_tree::{Event, EventKind, Places, Reason};
+use plain_run::decision::{Committed, Decision, committed_by, decide, refuse, update};
+use plain_run::named::named_in;
+use state_transform::Parts;
 use std::alloc::AllocError;
 
 impl World {
@@ -21,27 +20,18 @@ impl World {
     /// An `Err` is want of memory, so a reason that it gives is always another.
     pub fn decide(&self) -> Result<Decision, AllocError>
         requires { IsTrue (may_commit self.now) }
-        ensures decided { IfOk result (λ d. IsDecision self.now d) }
+        ensures decided { IfOk result
+            (λ d. IsDecision self.now.settings (core self.now) d) }
         ensures named { IfOk result (λ d. kind_decided d ≢ e.Refuse why.Memory) }
     {
-        let patch = match &self.settings.armed {
-            Some(armed) => &armed.patch,
-            None => return Err(AllocError),
-        };
         let alloc = *self.events.allocator();
-        match updated(alloc, patch, &self.places, &self.here.state) {
-            Ok(parts) => {
-                let places = places(alloc, &patch.new)?;
-                Ok(Decision::Updated(parts, places))
-            }
-            Err(end) => Ok(Decision::Refused(reason_of(end)?)),
-        }
+        decide(alloc, &self.settings, &self.places, &self.here)
     }
 
     /// Makes the outcome that was decided, as a worker. It takes no memory and can't be refused.
     pub fn settle(&mut self, worker: u32, decision: Decision)
         requires may { IsTrue (may_commit self.old) }
-        requires decided { IsDecision self.old decision }
+        requires decided { IsDecision self.old.settings (core self.old) decision }
         ensures { IsMade self.old self.new worker (kind_decided decision) }
     {
         match decision {
@@ -53,12 +43,10 @@ impl World {
     /// Goes over to the new state and the new program.
     fn update(&mut self, worker: u32, parts: Parts, places: Places)
         requires may { IsTrue (may_commit self.old) }
-        requires decided { IsUpdate self.old parts places }
+        requires decided { IsUpdate self.old.settings (core self.old) parts places }
         ensures { IsMade self.old self.new worker e.Update }
     {
-        parts.put_into(&mut self.here.state);
-        self.here.phase = Phase::Updated;
-        self.places = places;
+        update(&mut self.places, &mut self.here, parts, places);
         self.events.push_reserved(Event {
             worker,
             kind: EventKind::Update,
@@ -68,11 +56,11 @@ impl World {
     /// Refuses the update: the program goes on as it was.
     fn refuse(&mut self, worker: u32, reason: Reason)
         requires may { IsTrue (may_commit self.old) }
-        requires decided { IsReason self.old reason }
+        requires decided { IsReason self.old.settings (core self.old) reason }
         ensures { IsMade self.old self.new worker (e.Refuse reason) }
     {
         self.named = named_in(&self.here.state, reason);
-        self.here.phase = Phase::Refused(reason);
+        refuse(&mut self.here, reason);
         self.events.push_reserved(Event {
             worker,
             kind: EventKind::Refuse(reason),
