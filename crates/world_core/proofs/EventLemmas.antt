@@ -139,6 +139,11 @@ refuse_owes k c d x h =
     let l = from_legal (r.may_decide c && r.may_refuse k c x) (record c { phase = phase.Refused x }) d (from_table k c d (e.Refuse x) h) in
     subst (λ y. owed_in y + 1 ≤ owed_in c) l.1 (outcome_owes c (phase.Refused x) (and_first (r.may_decide c) (r.may_refuse k c x) l.0) refl)
 
+pub refuse_after : (k : Settings) (c d : r.Core) (x : Reason) → r.next k c (e.Refuse x) ≡ Some d → r.is_after d.phase ≡ true
+refuse_after k c d x h =
+    let l = from_legal (r.may_decide c && r.may_refuse k c x) (record c { phase = phase.Refused x }) d (from_table k c d (e.Refuse x) h) in
+    ap (λ y. r.is_after y.phase) (sym l.1)
+
 -- a World with one more event: what was given stays, and the event was made
 pub record Follows (w w2 : Inside) (x : Event) : Type 0 where
   pub earlier : w2.earlier ≡ w.earlier

@@ -20,9 +20,9 @@ use Rattle.world_core.specs.History.{History, core, may_commit, IsMade}
 use Rattle.world_core.specs.Refused.{place_named}
 use Rattle.world_core.specs.Sound.{IsSound, first_in, history_of, now_of}
 use Rattle.world_core.specs.declared.world.World.TheInside.{Inside}
-use Rattle.world_core.proofs.EventLemmas.{Follows, calm_keeps, keeps, not_after, refuse_owes, update_owes}
+use Rattle.world_core.proofs.EventLemmas.{Follows, calm_keeps, keeps, refuse_after, refuse_owes, update_owes}
 use Rattle.world_core.proofs.RefusedLemmas.{refusal-more}
-use Rattle.world_core.proofs.WorldLemmas.{may_of, may_told, test_told}
+use Rattle.world_core.proofs.WorldLemmas.{may_of, may_told, test_told, told}
 
 -- where the outcome may come
 pub awaits : (w : Inside) (h : History) → history_of w ≡ h → IsSound w → may_commit h ≡ true → AwaitsOutcome w.settings w.places w.here
@@ -38,10 +38,10 @@ commit_room w h v s m =
 
 -- what is decided where the run stands is decided of the history
 pub decided_told : (P : Settings → r.Core → Type 0) (w : Inside) (h : History) → history_of w ≡ h → IsSound w → P h.settings (core h) → P w.settings (now_of w)
-decided_told P w h v s d = subst (λ (X : Type 0). X) (sym (test_told P w h v s)) d
+decided_told P w h v s d = subst (λ c. P w.settings c) (told w (history_of w) refl s) (subst (λ g. P g.settings (core g)) (sym v) d)
 
 pub decided_of : (P : Settings → r.Core → Type 0) (w : Inside) (h : History) → history_of w ≡ h → IsSound w → P w.settings (now_of w) → P h.settings (core h)
-decided_of P w h v s d = subst (λ (X : Type 0). X) (test_told P w h v s) d
+decided_of P w h v s d = subst (λ g. P g.settings (core g)) v (subst (λ c. P w.settings c) (sym (told w (history_of w) refl s)) d)
 
 -- an Update
 pub update_keeps : (w w2 : Inside) (worker : ℕ) → IsSound w → Follows w w2 (record { worker = worker; kind = e.Update }) → w2.named ≡ w.named
@@ -58,11 +58,12 @@ asked_not_after w e = ap r.is_after e
 
 -- a refusal
 pub refuse_keeps : (w w2 : Inside) (worker : ℕ) (x : Reason) → IsSound w → r.is_asked w.here.phase ≡ true → Follows w w2 (record { worker = worker; kind = e.Refuse x })
-    → w2.named ≡ place_named (Some (now_of w, x)) → r.is_after w2.here.phase ≡ true
+    → w2.named ≡ place_named (Some (now_of w, x))
     → vec_len w2.events ≡ vec_len w.events + 1 → vec_capacity w2.events ≡ vec_capacity w.events → IsSound w2
-refuse_keeps w w2 worker x s asked f um after ln cap =
+refuse_keeps w w2 worker x s asked f um ln cap =
     let y : Event = record { worker = worker; kind = e.Refuse x } in
     let o : owed w2.here.phase w2.here.parked.items + 1 ≤ owed w.here.phase w.here.parked.items = refuse_owes w.settings (now_of w) (core_now w.settings w2.here) x f.makes.next in
+    let after : r.is_after w2.here.phase ≡ true = refuse_after w.settings (now_of w) (core_now w.settings w2.here) x f.makes.next in
     let named = refusal-more w.settings (first_in w) w.events.items y (now_of w) x refl s.leads (s.unrefused (asked_not_after w (asked_is w.here.phase asked))) in
     keeps w w2 y s f (omega (arith, ln, cap, s.room, o)) (um ∙ ap place_named (sym named)) (λ n. absurd (true_false (r.is_after w2.here.phase) after n))
 

@@ -1,7 +1,7 @@
 use Rattle.std.proofs.Common.{◌∙◌}
 use Rattle.c_tree.specs.Run as r
 use Rattle.world_core.specs.History.{core}
-use Rattle.world_core.proofs.GateLemmas.{on_told, test_at}
+use Rattle.world_core.proofs.WorldLemmas.{on_told, test_at}
 use Rattle.world_core.proofs.world.World.may_decide.Goals as goal
 
 pub returns-clause-value : goal.returns-clause-value

@@ -1,8 +1,7 @@
 use Rattle.std.proofs.Common.{◌∙◌}
 use Rattle.c_tree.specs.Run as r
 use Rattle.world_core.specs.History.{core}
-use Rattle.world_core.proofs.GateLemmas.{on_told, test_at}
-use Rattle.world_core.proofs.WorldLemmas.{none_if}
+use Rattle.world_core.proofs.WorldLemmas.{none_if, on_told, test_at}
 use Rattle.world_core.proofs.world.World.may_park.Goals as goal
 
 pub returns-then-is_none : goal.returns-then-is_none

@@ -1,6 +1,6 @@
 use Rattle.std.proofs.Common.{◌∙◌}
 use Rattle.c_tree.specs.Run as r
-use Rattle.world_core.proofs.GateLemmas.{find_at, found_may}
+use Rattle.world_core.proofs.WorldLemmas.{find_at, found_may}
 use Rattle.world_core.proofs.world.World.next_to_park.Goals as goal
 
 pub returns-clause-value : goal.returns-clause-value

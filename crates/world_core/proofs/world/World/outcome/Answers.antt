@@ -1,6 +1,6 @@
 use Rattle.std.proofs.Common.{◌∙◌}
 use Rattle.world_core.specs.Outcome.{outcome_in}
-use Rattle.world_core.proofs.GateLemmas.{test_told}
+use Rattle.world_core.proofs.WorldLemmas.{test_told}
 use Rattle.world_core.proofs.world.World.outcome.Goals as goal
 
 pub returns : goal.returns

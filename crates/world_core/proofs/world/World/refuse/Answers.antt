@@ -1,6 +1,8 @@
 use Rattle.std.proofs.Common.{refl}
-use Rattle.world_core.specs.Sound.{now_of}
-use Rattle.world_core.proofs.UpdateLemmas.{commit_room, refuse_made, refuse_sound}
+use Rattle.c_tree.specs.declared.event.EventKind.TheVariants.{Refuse}
+use Rattle.plain_run.specs.Decision.{IsReason}
+use Rattle.world_core.proofs.EventLemmas.{is_made}
+use Rattle.world_core.proofs.UpdateLemmas.{awaits, commit_asked, commit_room, decided_told, refuse_keeps}
 use Rattle.world_core.proofs.world.World.refuse.Goals as goal
 
 pub push_reserved-requires : goal.push_reserved-requires
@@ -8,10 +10,20 @@ push_reserved-requires c = commit_room c.self.inside c.args.self.now c.self.view
 
 pub invariant_of-self : goal.invariant_of-self
 invariant_of-self c =
-    refuse_sound c.self.inside _ c.args.self.now c.args.worker c.args.reason c.self.view_is c.self.invariant c.requires.may c.requires.decided refl refl
-    (c.named_in-self-inside.ensures) c.push_reserved.ensures.items refl c.push_reserved.ensures.len c.push_reserved.ensures.capacity
+    refuse_keeps c.self.inside _ c.args.worker c.args.reason c.self.invariant (commit_asked c.self.inside c.args.self.now c.self.view_is c.self.invariant c.requires.may) (record {
+      earlier = refl;
+      settings = refl;
+      events = c.push_reserved.ensures.items;
+      makes = c.refuse.ensures c.self.inside.settings c.self.inside.places (awaits c.self.inside c.args.self.now c.self.view_is c.self.invariant c.requires.may)
+          (decided_told (λ k d. IsReason k d c.args.reason) c.self.inside c.args.self.now c.self.view_is c.self.invariant c.requires.decided);
+    }) c.named_in-self-inside.ensures c.push_reserved.ensures.len c.push_reserved.ensures.capacity
 
 pub returns : goal.returns
 returns c =
-    refuse_made c.self.inside _ c.args.self.now _ c.args.worker c.args.reason c.self.view_is c.self.invariant c.requires.may c.requires.decided refl (invariant_of-self c) refl
-    c.push_reserved.ensures.items refl
+    is_made c.self.inside _ c.args.self.now _ c.args.worker (Refuse c.args.reason) c.self.view_is c.self.invariant refl (invariant_of-self c) (record {
+      earlier = refl;
+      settings = refl;
+      events = c.push_reserved.ensures.items;
+      makes = c.refuse.ensures c.self.inside.settings c.self.inside.places (awaits c.self.inside c.args.self.now c.self.view_is c.self.invariant c.requires.may)
+          (decided_told (λ k d. IsReason k d c.args.reason) c.self.inside c.args.self.now c.self.view_is c.self.invariant c.requires.decided);
+    })
