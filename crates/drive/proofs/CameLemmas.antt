@@ -13,9 +13,9 @@ use Rattle.c_tree.specs.declared.state.State.{State}
 use Rattle.c_tree.specs.Run.{Core, over, next, while_on, legal, is_due, may_step, may_park, may_decide, may_resume, stepped, updated, decided, without}
 use Rattle.c_tree.specs.Step.{step}
 use Rattle.c_tree.specs.Update.{update}
-use Rattle.world_core.specs.declared.decision.Committed.{Committed}
-use Rattle.world_core.specs.declared.decision.Committed.TheVariants as committed
-use Rattle.world_core.specs.Decision.{kind_of}
+use Rattle.plain_run.specs.declared.decision.Committed.{Committed}
+use Rattle.plain_run.specs.declared.decision.Committed.TheVariants as committed
+use Rattle.plain_run.specs.Decision.{kind_of}
 use Rattle.c_tree.proofs.SameThreads.{AsMany, update_many}
 
 pub record Came (c d : Core) (p : Phase) (ps : List ℕ) : Type 0 where

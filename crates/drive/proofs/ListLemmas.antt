@@ -23,11 +23,12 @@ take_zero : (es : List Event) → take 0 es ≡ []
 take_zero [] = refl
 take_zero (x ∷ es) = refl
 
-pub list_begins : (k : Settings) (clean : Bool) (es : List Event) (h : History) → h.settings ≡ k → h.events ≡ [] → OnList k clean es 0 h
-list_begins k clean es h s n =
-    let c : core h ≡ r.first k = core_empty h n ∙ ap r.first s in
+pub list_begins : (k : Settings) (clean : Bool) (es : List Event) (h : History) → h.settings ≡ k → h.earlier ≡ [] → h.events ≡ [] → OnList k clean es 0 h
+list_begins k clean es h s one n =
+    let c : core h ≡ r.first k = core_empty h one n ∙ ap r.first s in
     record {
       same = s;
+      single = one;
       events = n ∙ sym (take_zero es);
       rest = ap (λ d. refused_at k clean 1 d es) (sym c);
     }
@@ -40,6 +41,7 @@ pub list_takes : (k : Settings) (clean : Bool) (es : List Event) (n : ℕ) (h h2
 list_takes k clean es n h h2 x l i e t =
     record {
       same = ap (λ g. g.settings) t.1 ∙ l.same;
+      single = ap (λ g. g.earlier) t.1 ∙ l.single;
       events = ap (λ g. g.events) t.1 ∙ (ap (λ ys. ys ++ x ∷ []) l.events ∙ (ap (λ y. take n es ++ y ∷ []) e ∙ sym (take_more es n x i)));
       rest = l.rest ∙ (ap (λ ys. refused_at k clean (n + 1) (core h) ys) (at_event es n x i e)
           ∙ refused_some k clean (n + 1) (core h) (core h2) x (drop (n + 1) es) (ap (λ j. next_listed j (core h) x.kind) (sym l.same) ∙ t.0));

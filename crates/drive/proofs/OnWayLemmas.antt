@@ -13,11 +13,12 @@ use Rattle.drive.specs.OnWay.{IsLow, IsKept, IsOnward, OnWay, progress_at}
 first_kept : (k : Settings) → IsKept (r.first k)
 first_kept k = record { begins = λ h. refl; made = refl; few = omega arith }
 
-pub way_begins : (k : Settings) (h : History) (g : Picker) → h.settings ≡ k → h.events ≡ [] → IsLow g → OnWay k g h g
-way_begins k h g s n l =
-    let c : core h ≡ r.first k = core_empty h n ∙ ap r.first s in
+pub way_begins : (k : Settings) (h : History) (g : Picker) → h.settings ≡ k → h.earlier ≡ [] → h.events ≡ [] → IsLow g → OnWay k g h g
+way_begins k h g s one n l =
+    let c : core h ≡ r.first k = core_empty h one n ∙ ap r.first s in
     record {
       same = s;
+      single = one;
       kept = subst IsKept (sym c) (first_kept k);
       low = l;
       way = λ short a. ap (λ es. progress k short g (length es)) n
@@ -29,6 +30,7 @@ pub way_goes : (k : Settings) (start g g2 : Picker) (h h2 : History) → OnWay k
 way_goes k start g g2 h h2 w o =
     record {
       same = o.same ∙ w.same;
+      single = o.parts ∙ w.single;
       kept = o.kept;
       low = o.low;
       way = λ short a. ap (progress k short start) (o.more ∙ add-one (length h.events))

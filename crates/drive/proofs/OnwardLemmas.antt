@@ -13,9 +13,9 @@ use Rattle.c_tree.specs.Step.{step}
 use Rattle.c_tree.specs.Run as r
 use Rattle.c_tree.specs.Plan.{Progress, chosen, picked, picker_after, outcome, by_none}
 use Rattle.c_tree.proofs.ThreadLemmas.{step_few}
-use Rattle.world_core.specs.declared.decision.Committed.{Committed}
-use Rattle.world_core.specs.declared.decision.Committed.TheVariants as committed
-use Rattle.world_core.specs.Decision as decision
+use Rattle.plain_run.specs.declared.decision.Committed.{Committed}
+use Rattle.plain_run.specs.declared.decision.Committed.TheVariants as committed
+use Rattle.plain_run.specs.Decision as decision
 use Rattle.world_core.specs.History.{History, core, over, IsMade}
 use Rattle.drive.specs.Measure.{measure}
 use Rattle.drive.specs.OnWay.{IsLow, IsKept, Agrees, IsOnward}
@@ -40,6 +40,7 @@ onward : (h h2 : History) (g g2 : Picker) (kind : EventKind) → IsMade h h2 0 k
 onward h h2 g g2 kind m o ch p w l a less =
     record {
       same = ap (λ x. x.settings) m.ok;
+      parts = ap (λ x. x.earlier) m.ok;
       kept = w;
       low = l;
       more = ap (λ x. length x.events) m.ok ∙ length-append h.events (by_none kind ∷ []);

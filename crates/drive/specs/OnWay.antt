@@ -32,6 +32,7 @@ progress_at h g = record { core = core h; picker = g; events = h.events }
 -- one event of the plan was made
 pub record IsOnward (h h2 : History) (g g2 : Picker) : Type 0 where
   pub same : h2.settings ≡ h.settings
+  pub parts : h2.earlier ≡ h.earlier
   pub kept : IsKept (core h2)
   pub low : IsLow g2
   pub more : length h2.events ≡ length h.events + 1
@@ -42,6 +43,7 @@ pub record IsOnward (h h2 : History) (g g2 : Picker) : Type 0 where
 -- the events so far are the first ones of the plan
 pub record OnWay (k : Settings) (start : Picker) (h : History) (g : Picker) : Type 0 where
   pub same : h.settings ≡ k
+  pub single : h.earlier ≡ []
   pub kept : IsKept (core h)
   pub low : IsLow g
   pub way : (short : Bool) → Agrees short (core h).phase → progress k short start (length h.events) ≡ progress_at h g

@@ -29,10 +29,12 @@ pub enum Driven {
 /// up to there.
 pub fn drive_list(world: &mut World, listed: &[Event], clean: bool) -> Result<Driven, AllocError>
     requires new { world.old.events ≡ [] }
+    requires single { world.old.earlier ≡ [] }
     ensures answer { IfOk result (λ d. refusal d
         ≡ refused_at world.old.settings clean 1 (first world.old.settings) listed.now) }
     ensures ended { IfOk result (λ d. EndsAs d clean world.new listed.now) }
     ensures same { world.new.settings ≡ world.old.settings }
+    ensures single { world.new.earlier ≡ [] }
 {
     for i in 0..listed.len() {
         let event = listed[i];

@@ -23,6 +23,7 @@ pub fn make_next(world: &mut World, picker: &mut Picker) -> Result<(), AllocErro
     requires low { IsLow picker.old }
     ensures goes { OnOk result (IsOnward world.old world.new picker.old picker.new) }
     ensures same { world.new.settings ≡ world.old.settings }
+    ensures parts { world.new.earlier ≡ world.old.earlier }
 {
     if world.is_due() {
         return world.request(0);

@@ -29,8 +29,10 @@ pub enum Plan {
 /// which is a refusal then. The World holds the events up to there.
 pub fn drive(world: &mut World, plan: Plan) -> Result<Driven, AllocError>
     requires new { world.old.events ≡ [] }
+    requires single { world.old.earlier ≡ [] }
     ensures driven { IfOk result (λ d. IsDriven plan world.old.settings world.new d) }
     ensures same { world.new.settings ≡ world.old.settings }
+    ensures single { world.new.earlier ≡ [] }
 {
     match plan {
         Plan::Round => Ok(Driven::Ended(drive_planned(world, Picker::Round(None))?)),

@@ -20,9 +20,11 @@ use world_core::World;
 /// the events up to there.
 pub fn drive_planned(world: &mut World, start: Picker) -> Result<End, AllocError>
     requires new { world.old.events ≡ [] }
+    requires single { world.old.earlier ≡ [] }
     requires low { IsLow start }
     ensures over { IfOk result (λ end. over world.new ≡ Some end) }
     ensures same { world.new.settings ≡ world.old.settings }
+    ensures single { world.new.earlier ≡ [] }
     ensures planned { IfOk result
         (λ _. IsPlanned world.old.settings (is_short (core world.new)) start
         world.new.events) }
@@ -41,8 +43,10 @@ pub fn drive_planned(world: &mut World, start: Picker) -> Result<End, AllocError
 /// As `drive_planned`.
 pub fn drive_round(world: &mut World) -> Result<End, AllocError>
     requires new { world.old.events ≡ [] }
+    requires single { world.old.earlier ≡ [] }
     ensures over { IfOk result (λ end. over world.new ≡ Some end) }
     ensures same { world.new.settings ≡ world.old.settings }
+    ensures single { world.new.earlier ≡ [] }
     ensures planned { IfOk result
         (λ _. IsPlanned world.old.settings (is_short (core world.new)) (picker.Round None)
         world.new.events) }

@@ -3,16 +3,18 @@
 ghost use Rattle.std.specs.Prelude.{◌≡◌, IfOk, OnOk, false};
 ghost use Rattle.c_tree.specs.Plan.{is_memory_refusal};
 ghost use Rattle.c_tree.specs.declared.event.EventKind.TheVariants as e;
-ghost use Rattle.world_core.specs.Decision.{kind_decided};
-ghost use Rattle.drive.specs.Listed.{Taken, IsOutcome};
+ghost use Rattle.plain_run.specs.Decision.{IsOutcome};
+ghost use Rattle.drive.specs.Listed.{Taken};
 
 use c_tree::{EventKind, Reason};
+use plain_run::decision::kind_of;
 use std::alloc::AllocError;
-use world_core::{Decision, World};
+use world_core::World;
 
 fn take_step(world: &mut World, worker: u32, t: u32) -> Result<bool, AllocError>
     ensures taken { IfOk result (λ b. Taken b world.old world.new worker (e.Step t)) }
     ensures same { world.new.settings ≡ world.old.settings }
+    ensures parts { world.new.earlier ≡ world.old.earlier }
 {
     if !world.may_turn(t) {
         return Ok(false);
@@ -24,6 +26,7 @@ fn take_step(world: &mut World, worker: u32, t: u32) -> Result<bool, AllocError>
 fn take_request(world: &mut World, worker: u32) -> Result<bool, AllocError>
     ensures taken { IfOk result (λ b. Taken b world.old world.new worker e.Request) }
     ensures same { world.new.settings ≡ world.old.settings }
+    ensures parts { world.new.earlier ≡ world.old.earlier }
 {
     if !world.may_request() {
         return Ok(false);
@@ -35,6 +38,7 @@ fn take_request(world: &mut World, worker: u32) -> Result<bool, AllocError>
 fn take_park(world: &mut World, worker: u32, t: u32) -> Result<bool, AllocError>
     ensures taken { IfOk result (λ b. Taken b world.old world.new worker (e.Park t)) }
     ensures same { world.new.settings ≡ world.old.settings }
+    ensures parts { world.new.earlier ≡ world.old.earlier }
 {
     if !world.may_park(t) {
         return Ok(false);
@@ -46,6 +50,7 @@ fn take_park(world: &mut World, worker: u32, t: u32) -> Result<bool, AllocError>
 fn take_resume(world: &mut World, worker: u32, t: u32) -> bool
     ensures taken { Taken result world.old world.new worker (e.Resume t) }
     ensures same { world.new.settings ≡ world.old.settings }
+    ensures parts { world.new.earlier ≡ world.old.earlier }
 {
     if !world.may_resume(t) {
         return false;
@@ -60,16 +65,6 @@ fn is_memory(kind: EventKind) -> bool
     match kind {
         EventKind::Refuse(Reason::Memory) => true,
         _ => false,
-    }
-}
-
-/// The event of a decided outcome.
-fn kind_of(decision: &Decision) -> EventKind
-    ensures { result ≡ kind_decided decision.now }
-{
-    match decision {
-        Decision::Updated(_, _) => EventKind::Update,
-        Decision::Refused(reason) => EventKind::Refuse(*reason),
     }
 }
 
@@ -88,6 +83,7 @@ fn take_outcome(world: &mut World, worker: u32, listed: EventKind) -> Result<boo
     requires { IsOutcome listed }
     ensures taken { IfOk result (λ b. Taken b world.old world.new worker listed) }
     ensures same { world.new.settings ≡ world.old.settings }
+    ensures parts { world.new.earlier ≡ world.old.earlier }
 {
     if is_memory(listed) || !world.may_commit() {
         return Ok(false);
@@ -106,6 +102,7 @@ fn take_outcome(world: &mut World, worker: u32, listed: EventKind) -> Result<boo
 pub fn take_event(world: &mut World, worker: u32, kind: EventKind) -> Result<bool, AllocError>
     ensures taken { IfOk result (λ b. Taken b world.old world.new worker kind) }
     ensures same { world.new.settings ≡ world.old.settings }
+    ensures parts { world.new.earlier ≡ world.old.earlier }
 {
     match kind {
         EventKind::Step(t) => take_step(world, worker, t),

@@ -18,7 +18,7 @@ use Rattle.c_tree.specs.Run.{is_short}
 use Rattle.c_tree.specs.declared.run.Picker.TheVariants as picker
 use Rattle.load_texts.specs.Texts as load
 use Rattle.patch_maker.specs.Made.{IsPatch}
-use Rattle.world_core.specs.History.{History, IsRun, core, over}
+use Rattle.world_core.specs.History.{History, IsRun, core, over, single}
 use Rattle.answers.specs.Answer as meant
 use Rattle.upstare_cmd.specs.Arming.{armed, begun_with}
 use Rattle.upstare_cmd.specs.Asked.{load_names}
@@ -35,31 +35,40 @@ use Rattle.answers.specs.declared.answer.Answer.{Answer}
 use Rattle.upstare_cmd.specs.declared.judged.Judged.TheVariants as judged
 use Rattle.upstare_cmd.proofs.Judging.{of_patch, of_refused}
 use Rattle.upstare_cmd.proofs.Meant.{texts_mean}
+use Rattle.upstare_cmd.proofs.Single.{run_single, single_is}
 use Rattle.command_line.specs.Command.{Load}
 
 -- what is answered of a run that is over
 pub tells : (h : History) (n : ℕ) (end : End) (output : List ℕ) (steps : ℕ) (update bytes text empty : List ℕ) (pieces : List meant.Piece) (status : Status)
-    → over h ≡ Some end → IsRun h → output ≡ (core h).state.output → steps ≡ (core h).steps → update ≡ update_words h → bytes ≡ update → text ≡ line.loaded n steps bytes
+    → over h ≡ Some end → h.earlier ≡ [] → IsRun h → output ≡ (core h).state.output → steps ≡ (core h).steps → update ≡ update_words h → bytes ≡ update → text ≡ line.loaded n steps bytes
     → pieces ≡ meant.ToOut text ∷ meant.ToOut output ∷ [] → empty ≡ [] → status ≡ status_of end
     → LoadTells h.settings n h.events (record { pieces = pieces; line = empty; status = code status })
-tells h n end output steps update bytes text empty pieces status ended leads printed counted updated same told put none is =
+tells h n end output steps update bytes text empty pieces status ended one leads printed counted updated same told put none is =
     let all : pieces ≡ meant.ToOut (line.loaded n steps update) ∷ meant.ToOut output ∷ [] =
     put ∙ ap (λ t. meant.ToOut t ∷ meant.ToOut output ∷ []) (told ∙ ap (line.loaded n steps) same) in (
       output,
       steps,
       update,
       end,
-      record { core = core h; leads = leads; ends = ended; printed = sym printed; counted = sym counted; updated = sym updated },
+      record {
+        core = core h;
+        leads = run_single h one leads;
+        ends = ended;
+        printed = sym printed;
+        counted = sym counted;
+        updated = ap update_words (sym (single_is h one)) ∙ sym updated;
+      },
       λ i. record { pieces = all i; line = none i; status = code (is i) },
     )
 
 -- the events that were driven are planned, and the answer tells their run
-pub told_of_driven : (k : Settings) (n : ℕ) (h : History) (r : Result Answer AllocError) → IsPlanned k (is_short (core h)) (picker.Round None) h.events → h.settings ≡ k
+pub told_of_driven : (k : Settings) (n : ℕ) (h : History) (r : Result Answer AllocError) → IsPlanned k (is_short (core h)) (picker.Round None) h.events → h.settings ≡ k → h.earlier ≡ []
     → IfOk r (λ a. LoadTells h.settings n h.events (view.answer a)) → IfOk r (λ a. Loads n k (view.answer a))
-told_of_driven k n h (Ok a) planned same tells =
-    let short : Settings → Type 0 = λ x. IsPlanned k (is_short (core (record { settings = x; events = h.events }))) (picker.Round None) h.events in
-    (h.events, subst short same planned, subst (λ (x : Settings). LoadTells x n h.events (view.answer a)) same tells)
-told_of_driven k n h (Err e) planned same tells = tt
+told_of_driven k n h (Ok a) planned same one tells =
+    let alone : History → Type 0 = λ g. IsPlanned k (is_short (core g)) (picker.Round None) h.events in
+    let short : Settings → Type 0 = λ x. IsPlanned k (is_short (core (single x h.events))) (picker.Round None) h.events in
+    (h.events, subst short same (subst alone (single_is h one) planned), subst (λ (x : Settings). LoadTells x n h.events (view.answer a)) same tells)
+told_of_driven k n h (Err e) planned same one tells = tt
 
 -- what a World was begun with are the settings of the load
 pub of_begun : (p : Lifted) (x : made.Patch) (n at : ℕ) (input : List ℕ) (h : History) (r : Result Answer AllocError) → p ≡ x.old → at ≡ 34 * n → input ≡ []

@@ -6,7 +6,7 @@ use Rattle.c_tree.specs.declared.mapping.Patch.{Patch}
 use Rattle.c_tree.specs.declared.run.Armed.{Armed}
 use Rattle.c_tree.specs.declared.run.Settings.{Settings}
 use Rattle.c_tree.specs.Sound.{Sound}
-use Rattle.world_core.specs.History.{History}
+use Rattle.world_core.specs.History.{History, single}
 
 -- A patch is one of this old program, and sound.
 pub record Fits (p : Lifted) (x : Patch) : Type 0 where
@@ -22,4 +22,4 @@ armed (Some u) = Some (record { patch = u.0; at = u.1 })
 
 -- a run of these settings that has no event yet
 abbrev pub begun_with : Settings → History
-begun_with k = record { settings = k; events = [] }
+begun_with k = single k []

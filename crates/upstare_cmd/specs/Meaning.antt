@@ -30,7 +30,7 @@ use Rattle.patch_file.specs.Refused.{IsFileRefused, IsFirstDifference}
 use Rattle.patch_file.specs.Whole.{IsFileOf, file_of}
 use Rattle.patch_form.specs.declared.format.Format.TheVariants.{Two}
 use Rattle.patch_form.specs.Framing.{framed}
-use Rattle.world_core.specs.History.{core}
+use Rattle.world_core.specs.History.{core, single}
 use Rattle.answers.specs.Answer.{Answer}
 use Rattle.upstare_cmd.specs.Asked.{TextNames, names_of}
 use Rattle.answers.specs.Refusals as refusal
@@ -76,7 +76,7 @@ pub record Ran (k : Settings) (events : List Event) (output : List ℕ) (steps :
   pub ends : over k core ≡ Some end
   pub printed : core.state.output ≡ output
   pub counted : core.steps ≡ steps
-  pub updated : update_words (record { settings = k; events = events }) ≡ update
+  pub updated : update_words (single k events) ≡ update
 
 -- These events were made, and the answer tells their run.
 abbrev pub Tells : Settings → Option (List ℕ) → List Event → Answer → Type 0
@@ -129,7 +129,7 @@ picker_of (Some seed) = picker.Seed seed
 
 -- whether the update of these events was refused for want of memory
 abbrev pub was_short : Settings → List Event → Bool
-was_short k events = is_short (core (record { settings = k; events = events }))
+was_short k events = is_short (core (single k events))
 
 -- The events of a run are those that its schedule lists; or, without one, those that are planned, with an update that is refused
 -- for want of memory exactly where it was.

@@ -44,7 +44,8 @@ fn pieces_of(alloc: Global, line: Text, output: Text) -> Result<Row<Piece>, Allo
 
 /// What is answered of a load's run that is over.
 fn told(alloc: Global, world: &World, n: u32, end: End) -> Result<Answer, AllocError>
-    requires { over world.now ≡ Some end }
+    requires over { over world.now ≡ Some end }
+    requires single { world.now.earlier ≡ [] }
     ensures { IfOk result (λ a. meaning.LoadTells world.now.settings n world.now.events
         (view.answer a)) }
 {
@@ -61,6 +62,7 @@ fn told(alloc: Global, world: &World, n: u32, end: End) -> Result<Answer, AllocE
 /// Runs a load's World to its end, each thread in turn.
 fn driven(alloc: Global, world: &mut World, n: u32) -> Result<Answer, AllocError>
     requires new { world.old.events ≡ [] }
+    requires single { world.old.earlier ≡ [] }
     ensures { IfOk result (λ a. meaning.Loads n world.old.settings (view.answer a)) }
 {
     let end = drive_round(world)?;

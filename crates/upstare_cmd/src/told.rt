@@ -97,7 +97,8 @@ pub fn told(
     end: End,
     history: Option<&str>,
 ) -> Result<Answer, AllocError>
-    requires { over world.now ≡ Some end }
+    requires over { over world.now ≡ Some end }
+    requires single { world.now.earlier ≡ [] }
     ensures { IfOk result
         (λ a. meaning.Tells world.now.settings (words_view.text history.entry) world.now.events
         (view.answer a)) }

@@ -3,7 +3,7 @@ use Rattle.drive.proofs.ListLemmas.{list_begins, list_takes_at}
 use Rattle.drive.proofs.list.drive_list.Goals as goal
 
 pub loop-i-init : goal.loop-i-init
-loop-i-init c = list_begins c.args.world.now.settings c.args.clean c.args.listed.now c.args.world.now refl c.requires.new
+loop-i-init c = list_begins c.args.world.now.settings c.args.clean c.args.listed.now c.args.world.now refl c.requires.single c.requires.new
 
 pub loop-i-preserved : goal.loop-i-preserved
 loop-i-preserved c =

@@ -3,7 +3,7 @@ use Rattle.drive.proofs.OnWayLemmas.{way_begins, way_goes, way_ends}
 use Rattle.drive.proofs.planned.drive_planned.Goals as goal
 
 pub run-init : goal.run-init
-run-init c = way_begins c.args.world.now.settings c.args.world.now c.args.start refl c.requires.new c.requires.low
+run-init c = way_begins c.args.world.now.settings c.args.world.now c.args.start refl c.requires.single c.requires.new c.requires.low
 
 pub run-preserved : goal.run-preserved
 run-preserved c =
