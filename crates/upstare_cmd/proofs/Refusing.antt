@@ -16,6 +16,7 @@ use Rattle.answers.specs.Wanted.{Wanted}
 use Rattle.upstare_cmd.specs.Asked.{wanted}
 use Rattle.upstare_cmd.specs.Carries.{Intends, means}
 use Rattle.upstare_cmd.specs.Meaning.{Means}
+use Rattle.upstare_cmd.specs.Job.{job_of}
 use Rattle.upstare_cmd.specs.Parts.{OfMapping, OfSource}
 use Rattle.answers.specs.Reading.{AreRead}
 use Rattle.command_line.specs.Command.{Command}
@@ -57,7 +58,7 @@ means_one c d texts x e source r same one is bytes meant =
     subst (λ ts. P c ts) (sym all) (subst (λ k. P k (source ∷ [])) (sym same) meant)
 
 pub intended : (c : Command) (fs : List Wanted) (s t : Shelf) (texts ys : List (List ℕ)) (r : Result code.Answer AllocError) → fs ≡ wanted c → AreRead fs s.held s.reading texts t.reading → ys ≡ texts
-    → IfOk r (λ a. Means c ys (view.answer a)) → IfOk r (λ a. Intends c s t (view.answer a))
+    → IfOk r (λ a. Means c ys (view.answer a)) → IfOk r (λ a. Intends (job_of c) s t (view.answer a))
 intended c fs s t texts ys (Ok a) same read is meant =
     let P : List Wanted → Type 0 = λ gs. AreRead gs s.held s.reading texts t.reading in
     let Q : List (List ℕ) → Type 0 = λ zs. AreRead (wanted c) s.held s.reading zs t.reading in
