@@ -1,6 +1,6 @@
 -- Each event that is no outcome of an update, made where it may come.
 use Rattle.std.proofs.Common.{◌≡◌, ℕ, ◌+◌, ◌≤◌, ◌<◌, ◌^◌, Bool, true, false, not, ◌&&◌, List, ◌∷◌, map, length, Option, Some, None, refl, ap, sym, subst, ◌∙◌, arith}
-use Rattle.std.specs.Prelude.{is_some, ◌==◌}
+use Rattle.std.specs.Prelude.{is_some, ◌==◌, Result, Ok, Err, OnOk}
 use Rattle.std.proofs.lemmas.Bool.Decides.{nat_tests}
 use Rattle.c_tree.specs.declared.event.EventKind.{EventKind}
 use Rattle.c_tree.specs.declared.event.EventKind.TheVariants as e
@@ -109,18 +109,18 @@ step_counts k ps c b s m =
 
 pub step_able : (k : Settings) (now : Now) (p : Lifted) (t : ℕ) → p ≡ present now.phase k.armed k.program
     → on k (core_now k now) (r.may_step k (core_now k now) t) ≡ true → able p now.state t ≡ true
-step_able k now p t e m =
+step_able k now p t same m =
     let c = core_now k now in
-    ap (λ q. able q now.state t) e ∙ may_step-able k c t (parts (r.over k c) (r.may_step k c t) m).1
+    ap (λ q. able q now.state t) same ∙ may_step-able k c t (parts (r.over k c) (r.may_step k c t) m).1
 
 pub step_makes : (now now2 : Now) (k : Settings) (ps : Places) (p : Lifted) (t : ℕ) → p ≡ present now.phase k.armed k.program → IsReady k ps (core_now k now)
     → on k (core_now k now) (r.may_step k (core_now k now) t) ≡ true → core_at p now2 ≡ r.stepped (core_at p now) t (step p t now.state)
     → Makes k (e.Step t) now ps now2
-step_makes now now2 k ps p t e s m st =
+step_makes now now2 k ps p t same s m st =
     let c = core_now k now in
     let o = step c.program t c.state in
     let both = parts (r.over k c) (r.may_step k c t) m in
-    let leads : core_at c.program now2 ≡ r.stepped c t o = subst (λ q. core_at q now2 ≡ r.stepped (core_at q now) t (step q t now.state)) e st in
+    let leads : core_at c.program now2 ≡ r.stepped c t o = subst (λ q. core_at q now2 ≡ r.stepped (core_at q now) t (step q t now.state)) same st in
     let ph : now2.phase ≡ now.phase = ap (λ d. d.phase) leads ∙ phase_stays c t o in
     let pq : present now2.phase k.armed k.program ≡ c.program = ap (λ x. present x k.armed k.program) ph in
     let here : core_now k now2 ≡ r.stepped c t o = ap (λ q. core_at q now2) pq ∙ leads in
@@ -133,6 +133,12 @@ step_makes now now2 k ps p t e s m st =
           (subst (λ (d : r.Core). length d.state.threads ≤ 1000) (sym here) (few_stay c t o s.few (step_few c.program t c.state s.few)))
           (omega (arith, below, grow));
     }
+
+pub step_made : {A E : Type 0} (x : Result A E) (now now2 : Now) (k : Settings) (ps : Places) (p : Lifted) (t : ℕ) → p ≡ present now.phase k.armed k.program → IsReady k ps (core_now k now)
+    → on k (core_now k now) (r.may_step k (core_now k now) t) ≡ true → OnOk x (core_at p now2 ≡ r.stepped (core_at p now) t (step p t now.state))
+    → OnOk x (Makes k (e.Step t) now ps now2)
+step_made (Ok a) now now2 k ps p t same s m st = step_makes now now2 k ps p t same s m st
+step_made (Err b) now now2 k ps p t same s m st = tt
 
 -- events that change the parked threads alone
 parked_makes : (now now2 : Now) (k : Settings) (ps : Places) (kind : EventKind) (us : List ℕ) → IsReady k ps (core_now k now)

@@ -29,7 +29,8 @@ fn make_request(settings: &Settings, places: &Places, now: &mut Now) -> bool
     requires ready { IsReady settings.now places.now (core_now settings.now now.old) }
     ensures { MakesIf result settings.now e.Request places.now now.old places.now now.new }
 {
-    if !is_on(settings, places, now) || !is_due(settings, present(settings, now.phase), now) {
+    let program = present(settings, now.phase);
+    if !is_on(settings, places, now) || !is_due(settings, program, now) {
         return false;
     }
     request(now);
@@ -121,11 +122,12 @@ fn make_outcome(
         return Ok(false);
     }
     let decision = decide(alloc, settings, places, now)?;
-    if kind_of(&decision) != kind {
-        return Ok(false);
+    let decided = kind_of(&decision);
+    if decided == kind {
+        settle(places, now, decision);
+        return Ok(true);
     }
-    settle(places, now, decision);
-    Ok(true)
+    Ok(false)
 }
 
 /// Makes a refusal of the update.
