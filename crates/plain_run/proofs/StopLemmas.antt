@@ -10,7 +10,7 @@ use Rattle.c_tree.specs.declared.run.Settings.{Settings}
 use Rattle.c_tree.specs.Run as r
 use Rattle.c_tree.specs.Step.{step}
 use Rattle.plain_run.specs.Decision.{IsOutcome}
-use Rattle.plain_run.specs.CoreAt.{core_at, core_now, present}
+use Rattle.plain_run.specs.CoreAt.{core_at, present}
 use Rattle.plain_run.specs.Made.{Keeps, on}
 use Rattle.plain_run.specs.declared.now.Now.{Now}
 

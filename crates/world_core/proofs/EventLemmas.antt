@@ -43,7 +43,7 @@ from_update : (b : Bool) (k : Settings) (c d : r.Core) (x : Result State Reason)
     → (b ≡ true) × (d.phase ≡ phase.Updated) × (d.parked ≡ c.parked)
 from_update true k c d (Ok s) h =
     let q : d ≡ record c { program = r.new_program k c; state = s; phase = phase.Updated } = cc in
-    (refl, (ap (λ x. x.phase) q, ap (λ x. x.parked) q))
+    (refl, ap (λ x. x.phase) q, ap (λ x. x.parked) q)
 from_update true k c d (Err y) h = cc
 from_update false k c d x h = cc
 
@@ -77,7 +77,7 @@ not_after k c d (e.Park t) h f =
     ap (λ x. r.is_after x.phase) l.1 ∙ f
 not_after k c d e.Update h f =
     let l = from_update (r.may_decide c) k c d (r.decided k c) (from_table k c d e.Update h) in
-    absurd (true_false (r.is_after d.phase) (ap r.is_after l.1.0) f)
+    absurd (true_false (r.is_after d.phase) (ap r.is_after l.1) f)
 not_after k c d (e.Refuse x) h f =
     let l = from_legal (r.may_decide c && r.may_refuse k c x) (record c { phase = phase.Refused x }) d (from_table k c d (e.Refuse x) h) in
     absurd (true_false (r.is_after d.phase) (ap (λ y. r.is_after y.phase) (sym l.1)) f)
@@ -86,7 +86,7 @@ not_after k c d (e.Resume t) h f =
     ap (λ x. r.is_after x.phase) l.1 ∙ f
 
 -- how many events are owed behind an event
-pub owed_in : r.Core → ℕ
+abbrev pub owed_in : r.Core → ℕ
 owed_in c = owed c.phase c.parked
 
 pub step_owes : (k : Settings) (c d : r.Core) (t : ℕ) → r.next k c (e.Step t) ≡ Some d → owed_in d ≡ owed_in c
@@ -125,13 +125,13 @@ resume_owes k c d t h =
 outcome_owes : (c : r.Core) (p : Phase) → r.may_decide c ≡ true → r.is_asked p ≡ false → owed p c.parked + 1 ≤ owed_in c
 outcome_owes c p m f =
     let a : owed_in c ≡ owed phase.Asked c.parked = ap (λ q. owed q c.parked) (asked_is c.phase (decide_asked c m)) in
-    let b : owed p c.parked ≡ length c.parked = ap (λ x. (if x then 1 else 0) + length c.parked) f in
+    let b : owed p c.parked ≡ 0 + length c.parked = ap (λ x. (if x then 1 else 0) + length c.parked) f in
     omega (arith, a, b)
 
 pub update_owes : (k : Settings) (c d : r.Core) → r.next k c e.Update ≡ Some d → owed_in d + 1 ≤ owed_in c
 update_owes k c d h =
     let l = from_update (r.may_decide c) k c d (r.decided k c) (from_table k c d e.Update h) in
-    let same : owed_in d ≡ owed phase.Updated c.parked = ap (λ p. owed p d.parked) l.1.0 ∙ ap (λ us. owed phase.Updated us) l.1.1 in
+    let same : owed_in d ≡ owed phase.Updated c.parked = ap (λ p. owed p d.parked) l.1 ∙ ap (λ us. owed phase.Updated us) l.2 in
     subst (λ n. n + 1 ≤ owed_in c) (sym same) (outcome_owes c phase.Updated l.0 refl)
 
 pub refuse_owes : (k : Settings) (c d : r.Core) (x : Reason) → r.next k c (e.Refuse x) ≡ Some d → owed_in d + 1 ≤ owed_in c

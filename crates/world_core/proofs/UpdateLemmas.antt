@@ -1,6 +1,7 @@
 -- The outcome of the update of a World, and what it keeps.
-use Rattle.std.proofs.Common.{◌≡◌, ℕ, ◌+◌, ◌<◌, Bool, true, false, ◌&&◌, ◌∷◌, Option, Some, None, refl, ap, sym, subst, ◌∙◌, arith}
-use Rattle.std.specs.Prelude.{vec_len, vec_capacity}
+use Rattle.std.proofs.Common.{◌≡◌, ℕ, ◌+◌, ◌≤◌, ◌<◌, Bool, true, false, ◌&&◌, ◌∷◌, Option, Some, None, refl, ap, sym, subst, ◌∙◌, arith}
+use Rattle.std.specs.Prelude.{vec_len, vec_capacity, Result, Ok, Err, IfOk}
+use Rattle.std.specs.declared.alloc.AllocError.{AllocError}
 use Rattle.c_tree.specs.declared.event.Event.{Event}
 use Rattle.c_tree.specs.declared.event.EventKind.TheVariants as e
 use Rattle.c_tree.specs.declared.event.Reason.{Reason}
@@ -9,7 +10,7 @@ use Rattle.c_tree.specs.declared.run.Phase.TheVariants as phase
 use Rattle.c_tree.specs.declared.run.Settings.{Settings}
 use Rattle.c_tree.specs.Run as r
 use Rattle.plain_run.specs.CoreAt.{core_now}
-use Rattle.plain_run.specs.Decision.{Stays, committed_of, kind_decided}
+use Rattle.plain_run.specs.Decision.{IsDecision, Stays, committed_of, kind_decided}
 use Rattle.plain_run.specs.Room.{owed}
 use Rattle.plain_run.specs.Settled.{AwaitsOutcome}
 use Rattle.plain_run.specs.declared.decision.Committed.{Committed}
@@ -42,6 +43,11 @@ decided_told P w h v s d = subst (λ c. P w.settings c) (told w (history_of w) r
 
 pub decided_of : (P : Settings → r.Core → Type 0) (w : Inside) (h : History) → history_of w ≡ h → IsSound w → P w.settings (now_of w) → P h.settings (core h)
 decided_of P w h v s d = subst (λ g. P g.settings (core g)) v (subst (λ c. P w.settings c) (sym (told w (history_of w) refl s)) d)
+
+pub decide_told : (w : Inside) (h : History) (d : Result Decision AllocError) → history_of w ≡ h → IsSound w → IfOk d (λ x. IsDecision w.settings (now_of w) x)
+    → IfOk d (λ x. IsDecision h.settings (core h) x)
+decide_told w h (Ok d) v s is = decided_of (λ k c. IsDecision k c d) w h v s is
+decide_told w h (Err x) v s is = tt
 
 -- an Update
 pub update_keeps : (w w2 : Inside) (worker : ℕ) → IsSound w → Follows w w2 (record { worker = worker; kind = e.Update }) → w2.named ≡ w.named

@@ -55,11 +55,12 @@ impl Drop for World {
 impl Model for World {
     ghost use Rattle.world_core.specs.History.{History};
     ghost use Rattle.std.specs.Coded.{codes};
+    ghost use Rattle.c_tree.specs.contracts.run.Settings as given;
     ghost use Rattle.world_core.specs.contracts.part.Part as part;
 
     ghost Value = { History };
 
-    ghost coded = { Prim.hlevel (codes, part.the_row.coded) };
+    ghost coded = { Prim.hlevel (codes, given.the_row.coded, part.the_row.coded) };
 
     ghost use Rattle.world_core.specs.Sound.{history_of, IsSound};
 

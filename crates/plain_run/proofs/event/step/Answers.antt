@@ -1,5 +1,4 @@
-use Rattle.std.proofs.Common.{Ok, Err}
-use Rattle.plain_run.proofs.EventLemmas.{step_able, step_counts, step_made}
+use Rattle.plain_run.proofs.EventLemmas.{step_able, step_made}
 use Rattle.plain_run.proofs.event.step.Goals as goal
 
 pub step_now-requires-clause-able : goal.step_now-requires-clause-able

@@ -1,7 +1,6 @@
-use Rattle.std.proofs.Common.{◌≡◌, rules, refl, sym, ap, subst, ◌∙◌}
+use Rattle.std.proofs.Common.{◌≡◌, rules, refl, sym, ap, ◌∙◌}
 use Rattle.c_tree.specs.Run as r
 use Rattle.plain_run.specs.CoreAt.{core_at, core_now}
-use Rattle.c_tree.specs.Plan.{is_memory_refusal}
 use Rattle.plain_run.proofs.UnlikeLemmas.{no_memory_refusal, unlike_decision}
 use Rattle.plain_run.proofs.StopLemmas.{bad-outcome, is_barred, is_off}
 use Rattle.plain_run.proofs.making.make_outcome.Goals as goal
