@@ -1,7 +1,6 @@
 -- The events of a World but for the outcome of its update, and what they keep.
-use Rattle.std.proofs.Common.{◌≡◌, ℕ, ◌+◌, ◌≤◌, ◌<◌, true, [], ◌∷◌, map, length, Option, Some, None, refl, ap, sym, subst, ◌∙◌, arith}
+use Rattle.std.proofs.Common.{◌≡◌, ℕ, ◌+◌, ◌≤◌, ◌<◌, true, [], map, length, Option, Some, None, refl, ap, sym, subst, ◌∙◌, arith}
 use Rattle.std.specs.Prelude.{vec_len, vec_capacity}
-use Rattle.c_tree.specs.declared.event.Event.{Event}
 use Rattle.c_tree.specs.declared.event.EventKind.TheVariants as e
 use Rattle.c_tree.specs.declared.lifted.Lifted.{Lifted}
 use Rattle.c_tree.specs.declared.run.Armed.{Armed}
@@ -13,11 +12,10 @@ use Rattle.c_tree.specs.Step.{step}
 use Rattle.c_tree.proofs.RunLemmas.{may_step-able, next-Step}
 use Rattle.c_tree.proofs.StepLemmas.{stepped-steps}
 use Rattle.plain_run.specs.CoreAt.{core_at, core_now, present}
-use Rattle.plain_run.specs.Made.{Makes}
 use Rattle.plain_run.specs.Ready.{Fits, IsReady}
 use Rattle.plain_run.specs.Room.{owed}
 use Rattle.plain_run.proofs.EventLemmas.{on_below}
-use Rattle.plain_run.proofs.NextLemmas.{next-Resume, resume_parked, without_fewer}
+use Rattle.plain_run.proofs.NextLemmas.{resume_parked, without_fewer}
 use Rattle.world_core.specs.History.{History, core, may_resume, may_turn, IsMade}
 use Rattle.world_core.specs.Refused.{place_named, refused_in}
 use Rattle.world_core.specs.Sound.{IsSound, first_in, history_of, now_of}
