@@ -1,0 +1,1 @@
+-- the code of a program
