@@ -1,1 +1,3 @@
 -- the code of a program
+pub mod Operands
+pub mod Code
