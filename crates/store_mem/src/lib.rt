@@ -8,6 +8,7 @@
 mod globals;
 mod heap;
 mod laws;
+mod marks;
 mod mutexes;
 mod print;
 mod refusal;
