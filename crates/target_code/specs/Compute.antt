@@ -10,4 +10,5 @@ unfolding
     Rattle.target_code.specs.Code.rows_code
     Rattle.target_code.specs.Code.stmt_marks
     Rattle.target_code.specs.Code.rows_marks
+    Rattle.target_code.specs.TargetRun.target_next
 target_literals = tt
