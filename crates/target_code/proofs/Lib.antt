@@ -1,3 +1,6 @@
 pub mod SizeLemmas
 pub mod CodeLemmas
 pub mod MarkLemmas
+mod Programs
+mod Rows
+mod RowExamples
