@@ -4,3 +4,4 @@ pub mod MarkLemmas
 mod Programs
 mod Rows
 mod RowExamples
+mod CodeExamples

@@ -191,3 +191,45 @@ array = record {
       ∷ [];
   main = 0;
 }
+
+-- a loop in which a mutex is held, and a new version without the mutex
+abbrev pub locks_old : Lifted
+locks_old = record {
+  structs = [];
+  globals = counted;
+  mutexes = codes "m" ∷ [];
+  functions = main_of [] (s.Lock 0 ∷ count_to 0 2 [] ∷ s.Unlock 0 ∷ print_of (codes "old %d\n") (e.Global 0) ∷ []) ∷ [];
+  main = 0;
+}
+
+abbrev pub locks_new : Lifted
+locks_new = record {
+  structs = [];
+  globals = counted;
+  mutexes = [];
+  functions = main_of [] (count_to 0 2 [] ∷ print_of (codes "new %d\n") (e.Global 0) ∷ []) ∷ [];
+  main = 0;
+}
+
+abbrev pub locks_entries : List LEntry
+locks_entries = m.Point 0 0 (goes 0 0 []) ∷ m.Point 0 4 (goes 0 3 []) ∷ []
+
+-- `int down(int k) { int r; if (k == 0) { return 0; } r = down(k - 1); return r + ..; } int main(void) { printf("%d\n", down(2)); .. }`
+abbrev pub deep : ℕ → Lifted
+deep more = record {
+  structs = [];
+  globals = [];
+  mutexes = [];
+  functions =
+      int_function (codes "down") (slot (codes "k") ty.Int ∷ slot (codes "r") ty.Int ∷ [])
+      (s.If (e.Bin bin.Eq (e.Slot 0) (num 0)) (s.Return (Some (num 0)) ∷ []) []
+      ∷ s.Call (Some 1) 0 (e.Bin bin.Sub (e.Slot 0) (num 1) ∷ [])
+      ∷ s.Return (Some (e.Bin bin.Add (e.Slot 1) (num more)))
+      ∷ [])
+      ∷ main_of (slot (codes ".1") ty.Int ∷ []) (s.Call (Some 0) 0 (num 2 ∷ []) ∷ print_of (codes "%d\n") (e.Slot 0) ∷ [])
+      ∷ [];
+  main = 1;
+}
+
+abbrev pub deep_entries : List LEntry
+deep_entries = m.Point 0 0 (goes 0 0 []) ∷ m.Point 0 3 (goes 0 3 []) ∷ []

@@ -6,7 +6,7 @@ use Rattle.c_tree.specs.declared.state.Trap.TheVariants as trap
 use Rattle.c_tree.proofs.RunExamples.{steps}
 use Rattle.c_tree.proofs.UpdateExamples.{counts_old, counts_new, loop_entries, check_entries, counts_with_k, init_entries, nested_old, nested_new, nested_entries}
 use Rattle.target_code.specs.Compute.{target_literals}
-use Rattle.target_code.proofs.Programs.{hello, reads, divides, shifts, forever, asks_old, asks_new, asks_entries, waits_old, waits_new, waits_entries, workers_old, workers_new, workers_entries, items_old, items_new, item_entries, crossed}
+use Rattle.target_code.proofs.Programs.{hello, reads, divides, shifts, forever, asks_old, asks_new, asks_entries, waits_old, waits_new, waits_entries, workers_old, workers_new, workers_entries, items_old, items_new, item_entries, crossed, array, locks_old, locks_new, locks_entries, deep, deep_entries}
 use Rattle.target_code.proofs.Rows.{alone, armed, events, ends, told, tells, saved, loaded, StandsForTheState}
 
 -- Two instructions for the entry, two for `printf`, three for `return`.
@@ -240,3 +240,59 @@ crossed_tells = refl
 pub crossed_stands : StandsForTheState (alone crossed) (steps (0 ∷ 0 ∷ 1 ∷ 1 ∷ 0 ∷ []))
 unfolding target_literals
 crossed_stands = refl
+
+-- An array, `continue` and `break`.
+
+pub array_ends : ends (alone array) 18 ≡ Some (end.Finished 0)
+unfolding target_literals
+array_ends = refl
+
+pub array_tells : told (alone array) (events (alone array) 18) ≡ tells 91 [] (codes "-3\n")
+unfolding target_literals
+array_tells = refl
+
+pub array_stands : StandsForTheState (alone array) (events (alone array) 18)
+unfolding target_literals
+array_stands = refl
+
+-- The mutex that the new version lacks is held.
+
+pub held_ends : ends (armed locks_old locks_new locks_entries 3) 16 ≡ Some (end.Finished 0)
+unfolding target_literals
+held_ends = refl
+
+pub held_tells : told (armed locks_old locks_new locks_entries 3) (events (armed locks_old locks_new locks_entries 3) 16) ≡ tells 47 (saved 0 0 4 ∷ loaded false 0 0 4 ∷ []) (codes "old 2\n")
+unfolding target_literals
+held_tells = refl
+
+pub held_stands : StandsForTheState (armed locks_old locks_new locks_entries 3) (events (armed locks_old locks_new locks_entries 3) 16)
+unfolding target_literals
+held_stands = refl
+
+-- It is not held at the entry.
+
+pub free_ends : ends (armed locks_old locks_new locks_entries 0) 14 ≡ Some (end.Finished 0)
+unfolding target_literals
+free_ends = refl
+
+pub free_tells : told (armed locks_old locks_new locks_entries 0) (events (armed locks_old locks_new locks_entries 0) 14) ≡ tells 42 (saved 0 0 0 ∷ loaded true 0 0 0 ∷ []) (codes "new 2\n")
+unfolding target_literals
+free_tells = refl
+
+pub free_stands : StandsForTheState (armed locks_old locks_new locks_entries 0) (events (armed locks_old locks_new locks_entries 0) 14)
+unfolding target_literals
+free_stands = refl
+
+-- A recursion is updated at its bottom: 61 instructions of the program, 5 to unwind 4 frames, 10 to rebuild them, and 3 jumps behind the rebuilt calls.
+
+pub deep_ends : ends (armed (deep 1) (deep 2) deep_entries 8) 19 ≡ Some (end.Finished 0)
+unfolding target_literals
+deep_ends = refl
+
+pub deep_tells : told (armed (deep 1) (deep 2) deep_entries 8) (events (armed (deep 1) (deep 2) deep_entries 8) 19) ≡ tells 79 (saved 0 0 0 ∷ saved 0 0 3 ∷ saved 0 0 3 ∷ saved 0 1 1 ∷ loaded true 0 1 1 ∷ loaded true 0 0 3 ∷ loaded true 0 0 3 ∷ loaded true 0 0 0 ∷ []) (codes "4\n")
+unfolding target_literals
+deep_tells = refl
+
+pub deep_stands : StandsForTheState (armed (deep 1) (deep 2) deep_entries 8) (events (armed (deep 1) (deep 2) deep_entries 8) 19)
+unfolding target_literals
+deep_stands = refl
