@@ -1,5 +1,5 @@
 -- The codes of small programs, which have all instructions between them.
-use Rattle.std.specs.Prelude.{◌≡◌, ℕ, pos, List, [], ◌∷◌, map, refl, Some, codes}
+use Rattle.std.specs.Prelude.{◌≡◌, pos, List, [], ◌∷◌, map, refl, Some, codes}
 use Rattle.c_tree.specs.declared.lifted.LExpr.TheVariants as e
 use Rattle.c_tree.specs.declared.lifted.Lifted.{Lifted}
 use Rattle.c_tree.specs.declared.op.BinOp.TheVariants as bin

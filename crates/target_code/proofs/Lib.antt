@@ -5,3 +5,4 @@ mod Programs
 mod Rows
 mod RowExamples
 mod CodeExamples
+mod SeenExamples

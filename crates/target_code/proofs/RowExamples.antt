@@ -1,6 +1,5 @@
 -- Small programs whose runs on the target machine are counted by hand.
-use Rattle.std.specs.Prelude.{◌≡◌, ℕ, pos, true, false, List, [], ◌∷◌, refl, Some, codes}
-use Rattle.c_tree.specs.declared.event.EventKind.TheVariants.{Step}
+use Rattle.std.specs.Prelude.{◌≡◌, true, false, [], ◌∷◌, refl, Some, codes}
 use Rattle.c_tree.specs.declared.run.End.TheVariants as end
 use Rattle.c_tree.specs.declared.state.Trap.TheVariants as trap
 use Rattle.c_tree.proofs.RunExamples.{steps}

@@ -2,17 +2,15 @@
 use Rattle.std.specs.Prelude.{◌≡◌, ℕ, Bool, true, false, List, [], Option, Some, None}
 use Rattle.std.specs.Option.{option_map}
 use Rattle.c_tree.specs.declared.event.Event.{Event}
-use Rattle.c_tree.specs.declared.event.EventKind.TheVariants as e
 use Rattle.c_tree.specs.declared.event.TraceMark.{TraceMark}
 use Rattle.c_tree.specs.declared.lifted.Lifted.{Lifted}
 use Rattle.c_tree.specs.declared.mapping.LEntry.{LEntry}
 use Rattle.c_tree.specs.declared.run.End.{End}
 use Rattle.c_tree.specs.declared.run.Picker.TheVariants.{Round}
 use Rattle.c_tree.specs.declared.run.Settings.{Settings}
-use Rattle.c_tree.specs.declared.state.State.{State}
 use Rattle.c_tree.specs.Plan.{progress}
 use Rattle.c_tree.specs.Run.{over, run}
-use Rattle.target_code.specs.TargetRun.{TargetCore, state_of, target_run}
+use Rattle.target_code.specs.TargetRun.{state_of, target_run}
 
 -- the settings of a run without a patch
 abbrev pub alone : Lifted → Settings
