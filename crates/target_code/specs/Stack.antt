@@ -1,5 +1,5 @@
 -- Stacks of activations, beside a number of words that are to spare.
-use Rattle.std.specs.Prelude.{ℕ, ◌+◌, ◌-◌, ℤ, pos, List, [], ◌∷◌, length, take, drop, replicate, slice_set}
+use Rattle.std.specs.Prelude.{ℕ, ◌+◌, ◌-◌, ◌*◌, ◌≤◌, ℤ, pos, List, [], ◌∷◌, length, take, drop, replicate, slice_set}
 use Rattle.target_code.specs.declared.activation.Activation.{Activation}
 use Rattle.target_code.specs.declared.activation.FrameInfo.{FrameInfo}
 use Rattle.target_code.specs.Target.{edited}
@@ -40,3 +40,18 @@ frames_of (h ∷ below) slots =
 abbrev pub slots_of : List FrameInfo → ℕ
 slots_of [] = 0
 slots_of (h ∷ below) = h.slots + slots_of below
+
+-- the heads, of which the innermost is at another position
+abbrev pub with_head_pc : ℕ → List FrameInfo → List FrameInfo
+with_head_pc pc [] = []
+with_head_pc pc (h ∷ below) = record h { pc = pc } ∷ below
+
+-- the words that so many activations with so many slots in all take, and those that are to spare
+abbrev pub taken : ℕ → ℕ → ℕ → ℕ
+taken spare heads slots = spare + (4 * heads + slots)
+
+-- there is room for all of these words as heads and as slots, and they are few enough that activations are counted in 32 bits
+pub record HasRoom (all heads_room slots_room : ℕ) : Type 0 where
+  pub heads : all ≤ 4 * heads_room
+  pub slots : all ≤ slots_room
+  pub few : all ≤ 17179869180

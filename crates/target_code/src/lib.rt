@@ -8,9 +8,11 @@
 mod activation;
 mod code;
 mod instr;
+mod list_stack;
 mod stack;
 
 pub use activation::{Activation, FrameInfo, Mode};
 pub use code::{CallSpot, Code, CodeFunction};
 pub use instr::Instr;
+pub use list_stack::ListStack;
 pub use stack::FrameStack;
