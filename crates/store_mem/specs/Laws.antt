@@ -1,6 +1,6 @@
 -- That these accesses are those of a step, that threads play no part in them, and that the marks tell of the threads
 -- what a step asks of them.
-use Rattle.std.specs.Prelude.{◌≡◌, ℕ, ◌<◌, ℤ, pos, if◌then◌else◌, List, [], ◌∷◌, ◌++◌, length, slice_set, Option, Some, None, Result, Ok}
+use Rattle.std.specs.Prelude.{◌≡◌, ℕ, ◌<◌, ℤ, pos, IsTrue, if◌then◌else◌, List, [], ◌∷◌, ◌++◌, length, slice_set, Option, Some, None, Result, Ok}
 use Rattle.c_tree.specs.declared.event.ThreadMark.{ThreadMark}
 use Rattle.c_tree.specs.declared.lifted.LExpr.{LExpr}
 use Rattle.c_tree.specs.declared.lifted.LExpr.TheVariants as e
@@ -100,3 +100,23 @@ abbrev pub SpawnsThread : Type 0
 SpawnsThread =
     (marks : List ThreadMark) (w : Acting) (n : ℕ) (to : Location) (f : ℕ) (v : ℤ) → Marked marks w.state.threads
     → step.spawned w n to f v ≡ on (spawned marks f v) (λ r. store w n (with_thread w.state (fresh w.program f (v ∷ []) ∷ [])) to (pos r.0))
+
+-- behind a spawn the marks are those of the threads, the new one among them
+abbrev pub SpawnKeepsMarks : Type 0
+SpawnKeepsMarks =
+    (marks : List ThreadMark) (st : State) (f : ℕ) (v : ℤ) (frames : List Frame) (r : ℕ × List ThreadMark)
+    → Marked marks st.threads → 0 < length frames → spawned marks f v ≡ Ok r → Marked r.1 (with_thread st frames).threads
+
+-- a live thread begins
+abbrev pub BeginKeepsMarks : Type 0
+BeginKeepsMarks =
+    (marks : List ThreadMark) (st : State) (t : ℕ) → Marked marks st.threads → IsTrue (is_live_in marks t) → Marked (begun marks t) st.threads
+
+-- a thread ends
+abbrev pub EndKeepsMarks : Type 0
+EndKeepsMarks =
+    (marks : List ThreadMark) (st : State) (t : ℕ) → Marked marks st.threads → Marked (ended marks t) (slice_set st.threads t None)
+
+-- a spawn that is forgotten leaves the marks as they were
+abbrev pub ForgetUndoesSpawn : Type 0
+ForgetUndoesSpawn = (marks : List ThreadMark) (f : ℕ) (v : ℤ) (r : ℕ × List ThreadMark) → spawned marks f v ≡ Ok r → forgotten r.1 ≡ marks

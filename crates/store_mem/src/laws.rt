@@ -2,7 +2,7 @@
 
 ghost use Rattle.std.specs.Prelude.{ℕ, ℤ, List, Ok};
 ghost use Rattle.store_mem.specs.Access as access;
-ghost use Rattle.store_mem.specs.Laws.{ReadsFirst, StoresFirst, SetsScalar, StoresElement, StoresField, MakesObject, GetsByte, PutsText, FreesObject, LocksMutex, UnlocksMutex, IgnoresThreads, GivesIgnoringThreads, CountsThreads, CountsLive, TellsLive, SpawnsThread};
+ghost use Rattle.store_mem.specs.Laws.{ReadsFirst, StoresFirst, SetsScalar, StoresElement, StoresField, MakesObject, GetsByte, PutsText, FreesObject, LocksMutex, UnlocksMutex, IgnoresThreads, GivesIgnoringThreads, CountsThreads, CountsLive, TellsLive, SpawnsThread, SpawnKeepsMarks, BeginKeepsMarks, EndKeepsMarks, ForgetUndoesSpawn};
 
 /// What a step does to the memory is what these accesses do.
 pub fn a_step_makes_these_accesses()
@@ -41,4 +41,12 @@ pub fn marks_tell_the_threads()
     ensures count { CountsLive }
     ensures live { TellsLive }
     ensures spawn { SpawnsThread }
+{}
+
+/// The marks stay those of the threads where threads are made, begin and end.
+pub fn marks_follow_the_threads()
+    ensures spawn { SpawnKeepsMarks }
+    ensures begin { BeginKeepsMarks }
+    ensures end { EndKeepsMarks }
+    ensures forget { ForgetUndoesSpawn }
 {}
