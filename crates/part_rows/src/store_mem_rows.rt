@@ -1,4 +1,6 @@
-//! The memory of a program as it starts, its objects, and what it prints.
+//! The memory of a program as it starts, its objects, its threads, and what it prints.
+
+mod threads;
 
 use crate::programs::program_of;
 use c_tree::{Lifted, Text, Trap};
@@ -98,6 +100,7 @@ fn put_store(differing: &mut String, alloc: Global, program: &Lifted) -> Result<
         Ok(text) => compare(differing, "a start", WANTED, &text)?,
         Err(_) => differing.push_str("a call fails")?,
     }
+    threads::put_threads(differing, alloc, &mut store)?;
     let made = objects_made(&mut store);
     if made != 1_000_000 || !is_full(&mut store) {
         differing.push_str("there is room for other than 1,000,000 objects")?;
