@@ -1,15 +1,14 @@
 -- What the marks tell of the threads.
-use Rattle.std.proofs.Common.{◌≡◌, ℕ, zero, suc, ◌+◌, ◌<◌, ℤ, pos, Bool, true, false, ◌&&◌, cond, List, [], ◌∷◌, ◌++◌, length, Option, Some, None, refl, ap, sym, ◌∙◌, arith, count_by}
+use Rattle.std.proofs.Common.{◌≡◌, ℕ, zero, suc, pos, ◌&&◌, cond, List, [], ◌∷◌, ◌++◌, length, Option, Some, None, refl, ap, sym, ◌∙◌, arith, count_by}
 use Rattle.std.specs.Prelude.{nat_lt, if◌then◌else◌, is_some, slice_get}
 use Rattle.std.proofs.lemmas.Bool.Decides.{nat_tests}
 use Rattle.std.proofs.lemmas.List.Sums.{sum_by-cons}
 use Rattle.c_tree.specs.declared.event.ThreadMark.{ThreadMark}
 use Rattle.c_tree.specs.declared.event.ThreadMark.TheVariants.{Live, Ended, Fresh}
-use Rattle.c_tree.specs.declared.place.Location.{Location}
 use Rattle.c_tree.specs.declared.state.Frame.{Frame}
 use Rattle.c_tree.specs.declared.state.Trap.TheVariants as trap
 use Rattle.c_tree.specs.Limits.{max_live, max_threads}
-use Rattle.c_tree.specs.Step.{Acting, Outcome, Trapped, fresh, frames_in, store, with_thread}
+use Rattle.c_tree.specs.Step.{Outcome, Trapped, fresh, frames_in, store, with_thread}
 use Rattle.store_mem.specs.Access.{is_live_mark, is_live_in, live_marks}
 use Rattle.store_mem.specs.Memory.{IsMarkOf, Marked}
 use Rattle.store_mem.specs.Laws as law

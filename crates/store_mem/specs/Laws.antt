@@ -1,6 +1,6 @@
 -- That these accesses are those of a step, that threads play no part in them, and that the marks tell of the threads
 -- what a step asks of them.
-use Rattle.std.specs.Prelude.{◌≡◌, ℕ, ◌<◌, ℤ, pos, IsTrue, if◌then◌else◌, List, [], ◌∷◌, ◌++◌, length, slice_set, Option, Some, None, Result, Ok}
+use Rattle.std.specs.Prelude.{◌≡◌, ℕ, ◌<◌, ℤ, pos, IsTrue, if◌then◌else◌, List, [], ◌∷◌, length, slice_set, Option, None, Result, Ok}
 use Rattle.c_tree.specs.declared.event.ThreadMark.{ThreadMark}
 use Rattle.c_tree.specs.declared.lifted.LExpr.{LExpr}
 use Rattle.c_tree.specs.declared.lifted.LExpr.TheVariants as e
