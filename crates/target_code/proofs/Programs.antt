@@ -181,11 +181,11 @@ array = record {
       main_of (slot (codes "i") ty.Int ∷ [])
       (s.Assign (d.Slot 0) (num 0)
       ∷ s.Loop [] (e.Bin bin.Lt (e.Slot 0) (num 3))
-          (s.If (e.Bin bin.Eq (e.Slot 0) (num 1)) (s.Continue ∷ []) []
-          ∷ s.Assign (d.Elem 0 (e.Slot 0)) (e.Un un.Flip (e.Slot 0))
-          ∷ s.If (e.Bin bin.And (e.Elem 0 (e.Slot 0)) (e.Un un.Not (e.Slot 0))) [] (s.Break ∷ [])
-          ∷ [])
-          (s.Assign (d.Slot 0) (e.Bin bin.Add (e.Slot 0) (num 1)) ∷ [])
+      (s.If (e.Bin bin.Eq (e.Slot 0) (num 1)) (s.Continue ∷ []) []
+      ∷ s.Assign (d.Elem 0 (e.Slot 0)) (e.Un un.Flip (e.Slot 0))
+      ∷ s.If (e.Bin bin.And (e.Elem 0 (e.Slot 0)) (e.Un un.Not (e.Slot 0))) [] (s.Break ∷ [])
+      ∷ [])
+      (s.Assign (d.Slot 0) (e.Bin bin.Add (e.Slot 0) (num 1)) ∷ [])
       ∷ print_of (codes "%d\n") (e.Elem 0 (e.Slot 0))
       ∷ [])
       ∷ [];

@@ -47,7 +47,7 @@ impl Model for ListStack {
     ghost invariant = { λ s.
         (slots_of (reverse s.heads.items) ≡ length s.slots.items)
         × HasRoom (taken s.spare (vec_len s.heads) (vec_len s.slots))
-            (vec_capacity s.heads) (vec_capacity s.slots) };
+        (vec_capacity s.heads) (vec_capacity s.slots) };
 }
 
 /// The innermost head.
@@ -70,11 +70,7 @@ fn set_last(heads: &mut Vec<FrameInfo>, pc: u32)
 }
 
 /// Makes room for so many words in all.
-fn make_room(
-    heads: &mut Vec<FrameInfo>,
-    slots: &mut Vec<i32>,
-    all: usize,
-) -> Result<(), AllocError>
+fn make_room(heads: &mut Vec<FrameInfo>, slots: &mut Vec<i32>, all: usize) -> Result<(), AllocError>
     requires heads { 4 * vec_len heads.old ≤ all }
     requires slots { vec_len slots.old ≤ all }
     ensures heads { (heads.new.items ≡ heads.old.items) × (vec_len heads.new ≡ vec_len heads.old) }

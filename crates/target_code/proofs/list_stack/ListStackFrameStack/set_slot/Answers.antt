@@ -13,6 +13,6 @@ returns-clause-frames c =
     let at = c.len.result - head.slots + c.args.k in
     ap (λ v. frames_of (reverse heads) (set slots at v)) (to_z-of_z w32 c.args.value c.ranges.value)
     ∙ frames_of-set (reverse heads) head _ slots c.args.k c.args.value c.len.result
-        (ap (λ (l : List FrameInfo). reverse l) (sym c.as_slice.ensures.value) ∙ c.last-head.ensures)
-        (c.len.ensures ∙ c.self.inside.slots.ok.0)
+    (ap (λ (l : List FrameInfo). reverse l) (sym c.as_slice.ensures.value) ∙ c.last-head.ensures)
+    (c.len.ensures ∙ c.self.inside.slots.ok.0)
     ∙ ap (λ (s : Stack). with_slot c.args.k c.args.value s.frames) c.self.view_is
