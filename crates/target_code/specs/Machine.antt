@@ -100,7 +100,8 @@ dropped (a ∷ rest) m last = Goes (record m { function = a.function; pc = a.pc;
 abbrev pub saves : ℕ → Machine → Did
 saves n m =
     let saved = record { function = m.function; place = n; slots = m.slots } ∷ m.saved in
-    dropped m.below (record m { mode = Unwinding; saved = saved; count = m.count + 1 }) (Unwound saved m.memory (m.count + 1))
+    let unwinding = record m { mode = Unwinding; saved = saved; count = m.count + 1 } in
+    dropped m.below unwinding (Unwound saved m.memory (m.count + 1))
 
 -- an update place n: where the flag is set the thread begins to unwind
 abbrev pub flagged : Bool → ℕ → Machine → Did
@@ -152,7 +153,8 @@ pushed false c g m = Over (Trapped trap.Frames (m.count + 1))
 
 -- the outermost activation has returned a value: the thread ends, and with thread 0 the program
 abbrev pub ended : Setting → ℤ → Machine → Ran
-ended w v m = if w.number == 0 then Finished (cast_unsigned w32 v % 256) (m.count + 1) else Ended m.memory (m.count + 1)
+ended w v m =
+    if w.number == 0 then Finished (cast_unsigned w32 v % 256) (m.count + 1) else Ended m.memory (m.count + 1)
 
 -- a lock, which takes the mutex or waits for another thread
 abbrev pub takes : Bool → State → Machine → Did
@@ -173,7 +175,8 @@ joins w (negsuc u) rest m = Over (Trapped trap.Join (m.count + 1))
 abbrev pub prints : List ℕ → Machine → Did
 prints text m =
     let n = unwrap_or (directives text) 0 in
-    on_result (put m.memory.state (printed text (reverse (take n m.operands)))) (m.count + 1) (λ st. leaves st (drop n m.operands) m)
+    let bytes = printed text (reverse (take n m.operands)) in
+    on_result (put m.memory.state bytes) (m.count + 1) (λ st. leaves st (drop n m.operands) m)
 
 -- one instruction of the innermost activation; a run stops before a mark
 abbrev pub act : Setting → Option Instr → Machine → Did

@@ -83,8 +83,12 @@ with_new_thread c = joined_by c (slice_get c.memory.marks (length c.threads))
 
 -- the core after a turn of thread t. A trap and the program's end leave all but the counts
 abbrev pub after_turn : TargetCore → ℕ → Target → Ran → Option TargetCore
-after_turn c t x (Stopped m) = Some (with_new_thread (record (with_target (counted c x.count m.count) t (Some (target_of m))) { memory = m.memory }))
-after_turn c t x (Ended memory n) = Some (record (with_target (counted c x.count n) t None) { memory = record memory { marks = ended memory.marks t } })
+after_turn c t x (Stopped m) =
+    let d = with_target (counted c x.count m.count) t (Some (target_of m)) in
+    Some (with_new_thread (record d { memory = m.memory }))
+after_turn c t x (Ended memory n) =
+    let d = with_target (counted c x.count n) t None in
+    Some (record d { memory = record memory { marks = ended memory.marks t } })
 after_turn c t x (Trapped cause n) = Some (with_target (counted c x.count n) t (Some (record x { count = n })))
 after_turn c t x (Finished status n) = Some (with_target (counted c x.count n) t (Some (record x { count = n })))
 after_turn c t x (Unwound saved memory n) = None
@@ -99,13 +103,15 @@ trace_mark save t new f = record { save = save; thread = t; new = new; function 
 -- the core after thread t has unwound: all its frames are saved, the innermost first
 abbrev pub after_unwinding : TargetCore → ℕ → Target → Ran → Option TargetCore
 after_unwinding c t x (Unwound saved memory n) =
-    Some (record (with_target (counted c x.count n) t (Some (all_saved x saved n))) { trace = c.trace ++ map (trace_mark true t c.new) (reverse saved) })
+    let d = with_target (counted c x.count n) t (Some (all_saved x saved n)) in
+    Some (record d { trace = c.trace ++ map (trace_mark true t c.new) (reverse saved) })
 after_unwinding c t x _ = None
 
 -- the core after thread t has rebuilt its frames: all are loaded, the outermost first
 abbrev pub after_rebuilding : TargetCore → ℕ → Target → Ran → Option TargetCore
 after_rebuilding c t x (Stopped m) =
-    Some (record (with_target (counted c x.count m.count) t (Some (target_of m))) { trace = c.trace ++ map (trace_mark false t c.new) x.saved })
+    let d = with_target (counted c x.count m.count) t (Some (target_of m)) in
+    Some (record d { trace = c.trace ++ map (trace_mark false t c.new) x.saved })
 after_rebuilding c t x _ = None
 
 -- the thread of a number, where it was made and hasn't ended
@@ -142,12 +148,15 @@ updated_by c a = after_update c a.patch.new (update a.patch (state_of c))
 -- the core after an event, in which a thread looks at n instructions at most; none where it needs more.
 -- A Step is a turn, a Park an unwinding, a Resume a rebuilding. Whether the event is legal isn't asked here
 unfoldable pub target_next : ℕ → Settings → TargetCore → EventKind → Option TargetCore
-target_next n k c (e.Step t) = on_thread c t (λ x. after_turn c t x (turn (setting_of c t false) n (machine_of x c.memory)))
+target_next n k c (e.Step t) =
+    on_thread c t (λ x. after_turn c t x (turn (setting_of c t false) n (machine_of x c.memory)))
 target_next n k c e.Request = Some c
-target_next n k c (e.Park t) = on_thread c t (λ x. after_unwinding c t x (turn (setting_of c t true) n (machine_of x c.memory)))
+target_next n k c (e.Park t) =
+    on_thread c t (λ x. after_unwinding c t x (turn (setting_of c t true) n (machine_of x c.memory)))
 target_next n k c e.Update = option_and_then (λ a. updated_by c a) k.armed
 target_next n k c (e.Refuse r) = Some c
-target_next n k c (e.Resume t) = on_thread c t (λ x. after_rebuilding c t x (go (setting_of c t false) n (rebuilds c.code x c.memory)))
+target_next n k c (e.Resume t) =
+    on_thread c t (λ x. after_rebuilding c t x (go (setting_of c t false) n (rebuilds c.code x c.memory)))
 
 -- the core after one more event
 abbrev pub target_after : ℕ → Settings → Option TargetCore → Event → Option TargetCore

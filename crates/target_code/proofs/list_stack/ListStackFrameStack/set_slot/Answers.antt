@@ -1,4 +1,4 @@
-use Rattle.std.proofs.Common.{◌∙◌, ap, sym, w32, ℤ, ◌+◌, ◌-◌, List, reverse, set}
+use Rattle.std.proofs.Common.{◌∙◌, ap, sym, w32, ◌+◌, ◌-◌, List, reverse, set}
 use Rattle.std.proofs.lemmas.Int.{to_z-of_z}
 use Rattle.target_code.specs.declared.activation.FrameInfo.{FrameInfo}
 use Rattle.target_code.specs.Stack.{Stack, frames_of, with_slot}
