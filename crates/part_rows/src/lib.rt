@@ -31,6 +31,4 @@ mod repeats;
 #[cfg(test)]
 mod store_mem_rows;
 #[cfg(test)]
-mod target_code_rows;
-#[cfg(test)]
 mod up_base_rows;
