@@ -233,3 +233,13 @@ deep more = record {
 
 abbrev pub deep_entries : List LEntry
 deep_entries = m.Point 0 0 (goes 0 0 []) ∷ m.Point 0 3 (goes 0 3 []) ∷ []
+
+-- `pthread_t a[1]; int main(void) { pthread_create(&a[1], NULL, w, NULL); return 0; }`: there is no place for the thread's number
+abbrev pub no_place : Lifted
+no_place = record {
+  structs = [];
+  globals = record (scalar (codes "a") ty.Thread) { count = Some 1 } ∷ [];
+  mutexes = [];
+  functions = started (codes "w") [] ∷ main_of [] (s.Spawn (d.Elem 0 (num 1)) 0 e.Null ∷ []) ∷ [];
+  main = 1;
+}
