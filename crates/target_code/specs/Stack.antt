@@ -29,12 +29,14 @@ with_pc pc frames = edited (λ a. record a { pc = pc }) frames
 abbrev pub with_slot : ℕ → ℤ → List Activation → List Activation
 with_slot k v frames = edited (λ a. record a { slots = slice_set a.slots k v }) frames
 
--- the activations of these heads, innermost first, whose slots stand behind one another, the innermost one's last
+-- the activations of these heads, innermost first, whose slots stand behind one another, the
+-- innermost one's last
 abbrev pub frames_of : List FrameInfo → List ℤ → List Activation
 frames_of [] slots = []
 frames_of (h ∷ below) slots =
     let base = length slots - h.slots in
-    record { function = h.function; pc = h.pc; slots = drop base slots } ∷ frames_of below (take base slots)
+    record { function = h.function; pc = h.pc; slots = drop base slots }
+    ∷ frames_of below (take base slots)
 
 -- how many slots these heads have
 abbrev pub slots_of : List FrameInfo → ℕ
@@ -50,7 +52,8 @@ with_head_pc pc (h ∷ below) = record h { pc = pc } ∷ below
 abbrev pub taken : ℕ → ℕ → ℕ → ℕ
 taken spare heads slots = spare + (4 * heads + slots)
 
--- there is room for all of these words as heads and as slots, and they are few enough that activations are counted in 32 bits
+-- there is room for all of these words as heads and as slots, and they are few enough that
+-- activations are counted in 32 bits
 pub record HasRoom (all heads_room slots_room : ℕ) : Type 0 where
   pub heads : all ≤ 4 * heads_room
   pub slots : all ≤ slots_room
