@@ -1,12 +1,16 @@
 -- What a step reads and changes of what the threads share, an access at a time.
-use Rattle.std.specs.Prelude.{ℕ, zero, ◌+◌, ◌-◌, ℤ, pos, negsuc, Bool, true, false, ◌==◌, nat_lt, nat_le, if◌then◌else◌, List, [], ◌∷◌, ◌++◌, length, replicate, slice_index_or, slice_set, Option, Some, None, Result, Ok, Err}
+use Rattle.std.specs.Prelude.{ℕ, zero, ◌+◌, ◌-◌, ℤ, pos, negsuc, Bool, true, false, ◌&&◌, ◌==◌, nat_lt, nat_le, if◌then◌else◌, List, [], ◌∷◌, ◌++◌, length, count_by, take, replicate, slice_get, slice_index_or, slice_set, Option, Some, None, Result, Ok, Err}
+use Rattle.c_tree.specs.declared.event.ThreadMark.{ThreadMark}
+use Rattle.c_tree.specs.declared.event.ThreadMark.TheVariants.{Live, Ended, Fresh}
+use Rattle.c_tree.specs.declared.state.Heap.{Heap}
 use Rattle.c_tree.specs.declared.state.Object.{Object}
 use Rattle.c_tree.specs.declared.state.State.{State}
 use Rattle.c_tree.specs.declared.state.Trap.{Trap}
 use Rattle.c_tree.specs.declared.state.Trap.TheVariants as trap
 use Rattle.c_tree.specs.Value.{and_then, element, object, object_of}
 use Rattle.c_tree.specs.Step.{index, set_global, set_field, set_object, with_object}
-use Rattle.c_tree.specs.Limits.{max_objects, max_output}
+use Rattle.c_tree.specs.Limits.{max_live, max_threads, max_objects, max_output}
+use Rattle.store_mem.specs.Memory.{Memory}
 
 -- the values of a global: one of a scalar, and all of an array
 abbrev pub values_of : State → ℕ → List ℤ
@@ -15,6 +19,10 @@ values_of s global = slice_index_or s.globals global []
 -- a value is written where it can be read
 abbrev pub written : State → ℕ → ℤ → ℤ → Result State Trap
 written s global at v = and_then (element (values_of s global) at) (λ _. Ok (set_global s global (index at) v))
+
+-- the first value of a global is set, where it is there
+abbrev pub set_scalar : State → ℕ → ℤ → State
+set_scalar s global v = set_global s global 0 v
 
 -- a field is written where it can be read
 abbrev pub field_written : State → ℤ → ℕ → ℕ → ℤ → Result State Trap
@@ -85,3 +93,52 @@ abbrev pub put : State → List ℕ → Result State Trap
 put s text =
     let out = s.output ++ text in
     if nat_le (length out) max_output then Ok (record s { output = out }) else Err trap.Output
+
+-- whether a mark is one of a live thread, also of one that is still to begin
+abbrev pub is_live_mark : ThreadMark → Bool
+is_live_mark Live = true
+is_live_mark Ended = false
+is_live_mark (Fresh function argument) = true
+
+-- whether there is a mark, one of a live thread
+abbrev pub has_live_mark : Option ThreadMark → Bool
+has_live_mark (Some mark) = is_live_mark mark
+has_live_mark None = false
+
+-- whether the thread of a number is there and live
+abbrev pub is_live_in : List ThreadMark → ℕ → Bool
+is_live_in marks t = has_live_mark (slice_get marks t)
+
+-- how many threads are live
+abbrev pub live_marks : List ThreadMark → ℕ
+live_marks marks = count_by is_live_mark marks
+
+-- a new thread that is to begin in a function with an argument: its number, and the marks
+abbrev pub spawned : List ThreadMark → ℕ → ℤ → Result (ℕ × List ThreadMark) Trap
+spawned marks function argument =
+    let number = length marks in
+    if nat_lt (live_marks marks) max_live && nat_lt number max_threads
+    then Ok (number, marks ++ Fresh function argument ∷ [])
+    else Err trap.Threads
+
+-- a thread begins
+abbrev pub begun : List ThreadMark → ℕ → List ThreadMark
+begun marks t = slice_set marks t Live
+
+-- a thread ends; its number stays taken
+abbrev pub ended : List ThreadMark → ℕ → List ThreadMark
+ended marks t = slice_set marks t Ended
+
+-- the marks without their last one, where that is of a thread still to begin
+abbrev pub forgotten_from : Option ThreadMark → List ThreadMark → List ThreadMark
+forgotten_from (Some (Fresh function argument)) marks = take (length marks - 1) marks
+forgotten_from _ marks = marks
+
+-- the last thread is dropped, where it is still to begin
+abbrev pub forgotten : List ThreadMark → List ThreadMark
+forgotten marks = forgotten_from (slice_get marks (length marks - 1)) marks
+
+-- the memory after an update: other numbers of fields, globals, heap and mutexes
+abbrev pub put_in : Memory → List ℕ → List (List ℤ) → Heap → List (Option ℕ) → Memory
+put_in m fields globals heap mutexes =
+    record m { fields = fields; state = record m.state { globals = globals; heap = heap; mutexes = mutexes } }

@@ -37,3 +37,22 @@ pub fn write(globals: &mut Row<Row<i32>>, global: u32, at: i32, value: i32) -> R
     let row = globals.get_mut(global as usize);
     put(row, at, value)
 }
+
+fn set_in(row: &mut Row<i32>, value: i32)
+    ensures { row.new ≡ slice_set row.old 0 value }
+{
+    if row.len() > 0 {
+        row.set(0, value);
+    }
+}
+
+/// Sets the first value of a global. Nothing changes where there is none.
+pub fn set_first(globals: &mut Row<Row<i32>>, global: u32, value: i32)
+    ensures { globals.new
+        ≡ slice_set globals.old global (slice_set (slice_index_or globals.old global []) 0 value) }
+{
+    if (global as usize) < globals.len() {
+        let row = globals.get_mut(global as usize);
+        set_in(row, value);
+    }
+}
