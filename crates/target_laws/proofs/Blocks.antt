@@ -93,6 +93,7 @@ module _ (t : ℕ → ℕ) (code : List Instr) (ms : List ℕ) where
   moves from to n e g = subst (λ p. Goes p n) e g
 
   over_goes : {m : _} (b : Row_of-LStmt m) (at n : ℕ) → HasAt code at (jump_over b (at + over b + rows_size b)) → Goes (at + over b + rows_size b) n → Goes at n
+  unfolding stmt_size rows_size
   over_goes end_of-LStmt at n h g = moves _ _ n (omega arith) g
   over_goes (more_of-LStmt s rest) at n h g = jumps at _ n h.0 g
 
@@ -220,9 +221,9 @@ function_blocks p t f =
     let hf = has_back code 3 (rows_size row) (rows_code t (outside f) 3 1 row) _ (rows_length t (outside f) 3 1 row) h.1.1.1 in
     let mr = has_front ms 1 (rows_marks 3 row) _ m.1 in
     let mf = has_back ms 1 (counts row) (rows_marks 3 row) _ (rows_marks_length 3 row) m.1 in
-    let gl : Goes t code ms (3 + rows_size row) last = (0, mf.0) in
+    let gl : Reaches code ms (3 + rows_size row) last = (0, mf.0) in
     let ex : Exit t code ms (outside f) x = record { leave = gl; again = gl } in
-    let ge : Goes t code ms 3 (enters x 1 last row) = enters_goes t code ms (outside f) x 3 1 last row ex hr mr gl in
+    let ge : Reaches code ms 3 (enters x 1 last row) = enters_goes t code ms (outside f) x 3 1 last row ex hr mr gl in
     let entry : Block t code ms 0 (place Enter (One (enters x 1 last row))) = record { at = 1; mark = m.0; has = (h.1.0, (h.1.1.0, tt)); leads = ge } in
     let finish : Block t code ms last (place Finish Leaves) = record { at = 3 + rows_size row; mark = mf.0; has = has_front code (3 + rows_size row) (act_code t (3 + rows_size row) last Finish) _ hf; leads = tt } in
     (entry, blocks_append t code ms 1 (counts row) (layouts x 1 last row) _ (length-layouts x 1 last row) (rows_blocks t code ms (outside f) x 3 1 last row ex hr mr gl) (finish, tt))

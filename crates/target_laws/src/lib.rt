@@ -6,4 +6,4 @@
 
 mod laws;
 
-pub use laws::a_run_has_one_target;
+pub use laws::{a_run_has_one_target, jumps_stop};
