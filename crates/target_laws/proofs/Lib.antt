@@ -6,3 +6,7 @@ pub mod Places
 pub mod Exprs
 pub mod Parts
 pub mod Ahead
+pub mod Halts
+pub mod Frames
+pub mod SeenFrames
+pub mod Unwinds
