@@ -10,3 +10,5 @@ pub mod Halts
 pub mod Frames
 pub mod SeenFrames
 pub mod Unwinds
+pub mod Rebuilds
+pub mod Sounds

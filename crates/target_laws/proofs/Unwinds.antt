@@ -9,7 +9,10 @@ use Rattle.c_tree.specs.declared.place.Act.TheVariants.{Enter, Do, Test, EndLoop
 use Rattle.c_tree.specs.declared.state.Frame.{Frame}
 use Rattle.c_tree.specs.Able.{is_update_place}
 use Rattle.c_tree.specs.Layout.{place_at}
-use Rattle.c_tree.specs.Step.{function_of}
+use Rattle.c_tree.specs.declared.place.Place.{Place}
+use Rattle.c_tree.specs.Step.{function_of, top_of, at_frame}
+use Rattle.state_laws.proofs.Places.{where_is}
+use Rattle.target_code.specs.Seen.{seen}
 use Rattle.store_mem.specs.Memory.{Memory}
 use Rattle.target_code.specs.declared.activation.Mode.TheVariants.{Unwinding}
 use Rattle.target_code.specs.declared.code.CodeFunction.{CodeFunction}
@@ -17,10 +20,13 @@ use Rattle.target_code.specs.declared.instr.Instr.{Instr}
 use Rattle.target_code.specs.declared.instr.Instr.TheVariants as i
 use Rattle.target_code.specs.Between.{body_at, Stands, Wait, Waits, AllWait, acts, frames}
 use Rattle.target_code.specs.Code.{body_of, act_code, code_of}
-use Rattle.target_code.specs.Machine.{Setting, Machine, Ran, Unwound, turn}
+use Rattle.target_code.specs.Machine.{Setting, Machine, Ran, Unwound, turn, machine_of}
+use Rattle.target_laws.specs.Laws as law
 use Rattle.target_laws.proofs.Blocks.{HasAt}
+use Rattle.target_laws.proofs.Frames.{top_reverse}
 use Rattle.target_laws.proofs.Halts.{Halts, halts_step, halts_at, run_of}
 use Rattle.target_laws.proofs.Places.{here, code_at}
+use Rattle.target_laws.proofs.SeenFrames.{stands_seen}
 
 -- what a thread of the program p runs in while the flag is set
 abbrev pub with_flag : Lifted → ℕ → Setting
@@ -82,3 +88,16 @@ unwinds_from p t f pc ws ret memory c stands waits update =
     let b = here p code.t fn f.place pc stands.mark in
     let flag = flag_second code.t (body_of p code.t fn) pc f.place (place_at fn f.place).act update b.has in
     flags p t ret memory f (pc + 1) ws waits (subst (λ (k : CodeFunction). slice_get k.body (pc + 1) ≡ Some (i.Flag f.place)) (sym code.is) flag) (c + 1)
+
+-- a thread that runs and stands at an update place saves the frames that it stands for
+pub unwinding_saves : law.AnUnwindingSaves
+unwinding_saves p t x memory runs update =
+    let f = runs.frame in
+    let fs = reverse (f ∷ frames runs.waits) in
+    let w = with_flag p t in
+    let seen_is : seen (code_of p) x ≡ fs = ap (λ y. seen (code_of p) y) runs.is ∙ stands_seen p f runs.pc runs.waits x.returned x.count runs.stands runs.wait in
+    let top_is : top_of (seen (code_of p) x) ≡ f = ap top_of seen_is ∙ top_reverse f (frames runs.waits) in
+    let at_is : at_frame p (top_of (seen (code_of p) x)) ≡ place_at (function_of p f.function) f.place = ap (λ g. at_frame p g) top_is ∙ where_is p f runs.stands.fits.within in
+    let here : is_update_place (place_at (function_of p f.function) f.place).act ≡ true = sym (ap (λ (a : Place). is_update_place a.act) at_is) ∙ update in
+    let r = unwinds_from p t f runs.pc runs.waits x.returned memory x.count runs.stands runs.wait here in
+    (r.0, r.1.0, ap (λ y. turn w r.0 (machine_of y memory)) runs.is ∙ (r.1.1 ∙ ap (λ l. Unwound l memory r.1.0) (sym seen_is)))

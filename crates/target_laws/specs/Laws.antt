@@ -1,13 +1,24 @@
 -- What holds of the target machine and its code.
-use Rattle.std.specs.Prelude.{◌≡◌, ◌⊎◌, ◌<◌, ◌≤◌, ℕ, ⊤, List, slice_get, Option, Some}
+use Rattle.std.specs.Prelude.{◌≡◌, ◌⊎◌, ◌<◌, ◌≤◌, ℕ, Bool, true, false, ⊤, List, length, slice_get, Option, Some}
 use Rattle.c_tree.specs.declared.lifted.Lifted.{Lifted}
 use Rattle.c_tree.specs.declared.event.Event.{Event}
 use Rattle.c_tree.specs.declared.run.Settings.{Settings}
+use Rattle.c_tree.specs.declared.state.Frame.{Frame}
+use Rattle.c_tree.specs.Able.{is_update_place}
 use Rattle.c_tree.specs.Formed.{IsFormed}
+use Rattle.c_tree.specs.Limits.{max_frames}
+use Rattle.c_tree.specs.Step.{top_of, at_frame}
+use Rattle.c_tree.specs.Valid.{ValidStack}
+use Rattle.store_mem.specs.Memory.{Memory}
 use Rattle.target_code.specs.declared.instr.Instr.{Instr}
 use Rattle.target_code.specs.declared.instr.Instr.TheVariants as i
-use Rattle.target_code.specs.Between.{body_at}
+use Rattle.target_code.specs.Between.{body_at, IsRunning}
+use Rattle.target_code.specs.Code.{code_of}
+use Rattle.target_code.specs.Machine.{Setting, Machine, Stopped, Unwound, go, turn, machine_of, rebuilds, target_of}
+use Rattle.target_code.specs.Seen.{seen}
+use Rattle.target_code.specs.Target.{Target}
 use Rattle.target_code.specs.TargetRun.{TargetCore, target_run, IsTargetRun}
+use Rattle.target_laws.specs.SavedFrames.{AreSound}
 
 -- an instruction before which a turn stops, or at which a caller goes on or is saved
 abbrev pub IsStop : Option Instr → Type 0
@@ -32,3 +43,29 @@ MoreFuelIsTheSame =
 -- a list of events leads the target machine to one core at most
 abbrev pub RunsHaveOneTarget : Type 0
 RunsHaveOneTarget = (k : Settings) (es : List Event) (c d : TargetCore) → IsTargetRun k es c → IsTargetRun k es d → c ≡ d
+
+-- what thread t of a program runs in, with the flag set or not
+abbrev pub setting : Lifted → ℕ → Bool → Setting
+setting p t flag = record { code = code_of p; number = t; flag = flag }
+
+-- a thread that runs and stands for frames whose innermost one is at an update place saves exactly these frames
+abbrev pub AnUnwindingSaves : Type 0
+AnUnwindingSaves =
+    (p : Lifted) (t : ℕ) (x : Target) (memory : Memory) → IsRunning p x
+    → is_update_place (at_frame p (top_of (seen (code_of p) x))).act ≡ true
+    → (n : ℕ) × (count : ℕ) × (turn (setting p t true) n (machine_of x memory) ≡ Unwound (seen (code_of p) x) memory count)
+
+-- the thread comes to run again, stands for these frames, and leaves the memory
+abbrev pub Rebuilds : Lifted → ℕ → Target → Memory → List Frame → Type 0
+Rebuilds p t x memory frames =
+    (n : ℕ) × (m : Machine) × (go (setting p t false) n (rebuilds (code_of p) x memory) ≡ Stopped m)
+    × IsRunning p (target_of m) × (seen (code_of p) (target_of m) ≡ frames) × (m.memory ≡ memory)
+
+-- a thread whose saved frames are sound rebuilds exactly these frames
+abbrev pub ARebuildingLoads : Type 0
+ARebuildingLoads =
+    (p : Lifted) (t : ℕ) (x : Target) (memory : Memory) → AreSound p x.saved → length x.saved ≤ max_frames → Rebuilds p t x memory x.saved
+
+-- the frames of a live thread of a valid state can be rebuilt
+abbrev pub ValidStacksAreSound : Type 0
+ValidStacksAreSound = (p : Lifted) (objects : ℕ) (frames : List Frame) → ValidStack p objects frames → AreSound p frames

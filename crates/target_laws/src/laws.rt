@@ -1,6 +1,6 @@
 //! What holds of the target machine and its code.
 
-ghost use Rattle.target_laws.specs.Laws.{JumpsStop, TestsGoForward, MoreFuelIsTheSame, RunsHaveOneTarget};
+ghost use Rattle.target_laws.specs.Laws.{JumpsStop, TestsGoForward, MoreFuelIsTheSame, RunsHaveOneTarget, AnUnwindingSaves, ARebuildingLoads, ValidStacksAreSound};
 
 /// In the code of a formed program each jump goes forward, or to a mark or an `after`, and each
 /// test goes forward.
@@ -13,4 +13,21 @@ pub fn jumps_stop()
 pub fn a_run_has_one_target()
     ensures fuel { MoreFuelIsTheSame }
     ensures one { RunsHaveOneTarget }
+{}
+
+/// A thread that runs and stands at an update place unwinds to exactly the frames for which it
+/// stands, and leaves the memory as it was.
+pub fn an_unwinding_saves()
+    ensures { AnUnwindingSaves }
+{}
+
+/// A thread whose saved frames are sound and keep the limit of frames rebuilds exactly these: it
+/// runs, its innermost activation at a mark and the others at the calls that they wait for.
+pub fn a_rebuilding_loads()
+    ensures { ARebuildingLoads }
+{}
+
+/// The frames of each live thread of a valid state can be rebuilt.
+pub fn valid_stacks_are_sound()
+    ensures { ValidStacksAreSound }
 {}

@@ -6,4 +6,7 @@
 
 mod laws;
 
-pub use laws::{a_run_has_one_target, jumps_stop};
+pub use laws::{
+    a_rebuilding_loads, a_run_has_one_target, an_unwinding_saves, jumps_stop,
+    valid_stacks_are_sound,
+};
