@@ -1,9 +1,10 @@
 -- The stack of a valid state is sound to rebuild.
-use Rattle.std.proofs.Common.{◌≡◌, ℕ, suc, List, [], ◌∷◌, All, Some, Option, ap, sym, arith}
+use Rattle.std.proofs.Common.{◌≡◌, ℕ, suc, ℤ, List, [], ◌∷◌, length, refl, All, Some, Option, ap, sym, arith}
 use Rattle.std.specs.Prelude.{slice_get}
 use Rattle.c_tree.specs.declared.lifted.LExpr.{LExpr}
 use Rattle.c_tree.specs.declared.lifted.LStmt.TheVariants as s
 use Rattle.c_tree.specs.declared.lifted.Lifted.{Lifted}
+use Rattle.c_tree.specs.declared.lifted.Slot.{Slot}
 use Rattle.c_tree.specs.declared.place.Act.{Act}
 use Rattle.c_tree.specs.declared.place.Act.TheVariants.{Do}
 use Rattle.c_tree.specs.declared.place.Follow.{Follow}
@@ -11,7 +12,7 @@ use Rattle.c_tree.specs.declared.place.Follow.TheVariants.{One, Two, Leaves}
 use Rattle.c_tree.specs.declared.state.Frame.{Frame}
 use Rattle.c_tree.specs.Layout.{place, place_at}
 use Rattle.c_tree.specs.Step.{function_of}
-use Rattle.c_tree.specs.Valid.{ValidFrame, ValidStack, IsCallOf, Chained, ChainedFrames}
+use Rattle.c_tree.specs.Valid.{Fits, ValidFrame, ValidStack, IsCallOf, Chained, ChainedFrames}
 use Rattle.target_code.specs.Between.{FitsFunction}
 use Rattle.target_code.specs.Code.{marks}
 use Rattle.target_laws.specs.Laws as law
@@ -38,8 +39,14 @@ mark_of p n f v =
     let long = same_length (function_of p f.function) in
     get_within (marks (function_of p f.function)) f.place (omega (arith, v.place, long))
 
+fits_long : (n : ℕ) (slots : List Slot) (vs : List ℤ) → Fits n slots vs → length vs ≡ length slots
+fits_long n [] [] h = refl
+fits_long n (x ∷ slots) (v ∷ vs) h = ap suc (fits_long n slots vs h.1)
+fits_long n [] (v ∷ vs) h = absurd h
+fits_long n (x ∷ slots) [] h = absurd h
+
 fits_of : (p : Lifted) (n : ℕ) (f : Frame) → ValidFrame p n f → FitsFunction p f
-fits_of p n f v = record { within = v.function; slots = sym v.slots.0 }
+fits_of p n f v = record { within = v.function; slots = fits_long n (function_of p f.function).slots f.slots v.slots }
 
 valid_sound : (p : Lifted) (n : ℕ) (rest : List Frame) (f : Frame) → ValidFrame p n f → All (λ g. ValidFrame p n g) rest → Chained p f rest → AreSoundFrom p f rest
 valid_sound p n [] f v all c = let m = mark_of p n f v in (m.0, record { fits = fits_of p n f v; mark = m.1 })
