@@ -12,3 +12,4 @@ pub mod SeenFrames
 pub mod Unwinds
 pub mod Rebuilds
 pub mod Sounds
+pub mod Turned
