@@ -13,3 +13,4 @@ pub mod Unwinds
 pub mod Rebuilds
 pub mod Sounds
 pub mod Turned
+pub mod Calls
