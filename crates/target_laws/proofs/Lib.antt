@@ -14,3 +14,6 @@ pub mod Rebuilds
 pub mod Sounds
 pub mod Turned
 pub mod Calls
+pub mod Instructions
+pub mod Covered
+pub mod Statements
