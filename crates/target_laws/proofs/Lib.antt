@@ -17,3 +17,5 @@ pub mod Calls
 pub mod Instructions
 pub mod Covered
 pub mod Statements
+pub mod Slices
+pub mod Marks
