@@ -19,3 +19,5 @@ pub mod Covered
 pub mod Statements
 pub mod Slices
 pub mod Marks
+pub mod AfterTurns
+pub mod TurnIsStep

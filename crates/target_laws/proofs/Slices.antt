@@ -33,3 +33,16 @@ set_last (z ∷ xs) x y = ap (λ l. z ∷ l) (set_last xs x y)
 pub get_past : {A : Type 0} (xs : List A) → slice_get xs (length xs) ≡ None
 get_past [] = refl
 get_past (x ∷ xs) = get_past xs
+
+pub map_more : {A B : Type 0} (g : A → B) (xs : List A) (x : A) → map g (xs ++ x ∷ []) ≡ map g xs ++ g x ∷ []
+map_more g [] x = refl
+map_more g (y ∷ xs) x = ap (λ l. g y ∷ l) (map_more g xs x)
+
+pub length_set : {A : Type 0} (xs : List A) (i : ℕ) (x : A) → length (slice_set xs i x) ≡ length xs
+length_set [] i x = refl
+length_set (y ∷ xs) zero x = refl
+length_set (y ∷ xs) (suc i) x = ap suc (length_set xs i x)
+
+pub length_map : {A B : Type 0} (g : A → B) (xs : List A) → length (map g xs) ≡ length xs
+length_map g [] = refl
+length_map g (y ∷ xs) = ap suc (length_map g xs)

@@ -1,23 +1,27 @@
 -- What holds of the target machine and its code.
-use Rattle.std.specs.Prelude.{◌≡◌, ◌⊎◌, ◌<◌, ◌≤◌, ℕ, Bool, true, false, ⊤, List, length, slice_get, Option, Some}
+use Rattle.std.specs.Prelude.{◌≡◌, ◌≢◌, ◌⊎◌, ◌<◌, ◌≤◌, ℕ, Bool, true, false, ⊤, List, length, slice_get, Option, Some}
 use Rattle.c_tree.specs.declared.lifted.Lifted.{Lifted}
 use Rattle.c_tree.specs.declared.event.Event.{Event}
 use Rattle.c_tree.specs.declared.run.Settings.{Settings}
+use Rattle.c_tree.specs.declared.event.EventKind.TheVariants as e
 use Rattle.c_tree.specs.declared.state.Frame.{Frame}
+use Rattle.c_tree.specs.declared.state.State.{State}
 use Rattle.c_tree.specs.Able.{is_update_place}
 use Rattle.c_tree.specs.Formed.{IsFormed}
 use Rattle.c_tree.specs.Limits.{max_frames}
-use Rattle.c_tree.specs.Step.{top_of, at_frame}
+use Rattle.c_tree.specs.Step.{Outcome, Done, Blocked, top_of, at_frame, step}
 use Rattle.c_tree.specs.Valid.{ValidStack}
 use Rattle.store_mem.specs.Memory.{Memory}
 use Rattle.target_code.specs.declared.instr.Instr.{Instr}
 use Rattle.target_code.specs.declared.instr.Instr.TheVariants as i
-use Rattle.target_code.specs.Between.{body_at, IsRunning}
+use Rattle.target_code.specs.declared.activation.Mode.TheVariants.{Running}
+use Rattle.target_code.specs.Between.{body_at, IsRunning, IsBetween}
 use Rattle.target_code.specs.Code.{code_of}
 use Rattle.target_code.specs.Machine.{Setting, Machine, Stopped, Unwound, go, turn, machine_of, rebuilds, target_of}
 use Rattle.target_code.specs.Seen.{seen}
 use Rattle.target_code.specs.Target.{Target}
-use Rattle.target_code.specs.TargetRun.{TargetCore, target_run, IsTargetRun}
+use Rattle.target_code.specs.Machine as machine
+use Rattle.target_code.specs.TargetRun.{TargetCore, state_of, setting_of, target_next, target_run, IsTargetRun}
 use Rattle.target_laws.specs.SavedFrames.{AreSound}
 
 -- an instruction before which a turn stops, or at which a caller goes on or is saved
@@ -69,3 +73,26 @@ ARebuildingLoads =
 -- the frames of a live thread of a valid state can be rebuilt
 abbrev pub ValidStacksAreSound : Type 0
 ValidStacksAreSound = (p : Lifted) (objects : ℕ) (frames : List Frame) → ValidStack p objects frames → AreSound p frames
+
+-- the state that a step leaves: as before at a trap, at the program's end, and where the thread has to wait
+abbrev pub left_by : State → Outcome → State
+left_by s (Done next) = next
+left_by s _ = s
+
+-- thread t is there and runs, and is not parked
+pub record Runs (c : TargetCore) (t : ℕ) : Type 0 where
+  pub thread : Target
+  pub is : slice_get c.threads t ≡ Some (Some thread)
+  pub mode : thread.mode ≡ Running
+
+-- a turn of a thread that runs makes its step, and leaves what is true between two events
+abbrev pub ATurnIsAStep : Type 0
+ATurnIsAStep =
+    (p : Lifted) (k : Settings) (c : TargetCore) (t : ℕ) → IsBetween p c → Runs c t → step p t (state_of c) ≢ Blocked
+    → (n : ℕ) × (d : TargetCore) × (target_next n k c (e.Step t) ≡ Some d) × (state_of d ≡ left_by (state_of c) (step p t (state_of c))) × IsBetween p d
+
+-- where the step has to wait, so has the turn
+abbrev pub ABlockedTurnWaits : Type 0
+ABlockedTurnWaits =
+    (p : Lifted) (c : TargetCore) (t : ℕ) → IsBetween p c → (r : Runs c t) → step p t (state_of c) ≡ Blocked
+    → (n : ℕ) × (turn (setting_of c t false) n (machine_of r.thread c.memory) ≡ machine.Blocked)

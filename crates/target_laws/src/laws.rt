@@ -1,6 +1,6 @@
 //! What holds of the target machine and its code.
 
-ghost use Rattle.target_laws.specs.Laws.{JumpsStop, TestsGoForward, MoreFuelIsTheSame, RunsHaveOneTarget, AnUnwindingSaves, ARebuildingLoads, ValidStacksAreSound};
+ghost use Rattle.target_laws.specs.Laws.{JumpsStop, TestsGoForward, MoreFuelIsTheSame, RunsHaveOneTarget, AnUnwindingSaves, ARebuildingLoads, ValidStacksAreSound, ATurnIsAStep, ABlockedTurnWaits};
 
 /// In the code of a formed program each jump goes forward, or to a mark or an `after`, and each
 /// test goes forward.
@@ -30,4 +30,12 @@ pub fn a_rebuilding_loads()
 /// The frames of each live thread of a valid state can be rebuilt.
 pub fn valid_stacks_are_sound()
     ensures { ValidStacksAreSound }
+{}
+
+/// Between two events a turn of a thread that runs comes to an end, stands for the state that the
+/// thread's step leaves, and leaves what is true between two events; a trap and the program's end
+/// leave the state. Where the step has to wait, so has the turn.
+pub fn a_turn_is_a_step()
+    ensures turn { ATurnIsAStep }
+    ensures waits { ABlockedTurnWaits }
 {}

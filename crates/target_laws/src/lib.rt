@@ -7,6 +7,6 @@
 mod laws;
 
 pub use laws::{
-    a_rebuilding_loads, a_run_has_one_target, an_unwinding_saves, jumps_stop,
+    a_rebuilding_loads, a_run_has_one_target, a_turn_is_a_step, an_unwinding_saves, jumps_stop,
     valid_stacks_are_sound,
 };
