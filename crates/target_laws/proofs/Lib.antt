@@ -21,3 +21,5 @@ pub mod Slices
 pub mod Marks
 pub mod AfterTurns
 pub mod TurnIsStep
+pub mod SavedThreads
+pub mod UpdateParts
