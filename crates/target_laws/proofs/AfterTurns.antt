@@ -1,5 +1,5 @@
 -- The core after a turn stands for the state that the step leaves.
-use Rattle.std.proofs.Common.{◌≡◌, ◌⊎◌, inl, inr, ℕ, zero, suc, ◌+◌, ◌-◌, ◌<◌, ℤ, pos, List, [], ◌∷◌, ◌++◌, length, reverse, take, replicate, map, Option, Some, None, refl, sym, ap, ◌∙◌, subst, arith}
+use Rattle.std.proofs.Common.{◌≡◌, ◌⊎◌, inl, inr, ℕ, zero, suc, ◌+◌, ◌-◌, ◌<◌, ℤ, pos, true, false, List, [], ◌∷◌, ◌++◌, length, reverse, take, replicate, map, Option, Some, None, refl, sym, ap, ◌∙◌, subst, arith}
 use Rattle.std.specs.Prelude.{All, MatchOption, ⊤, slice_get, slice_set}
 use Rattle.std.specs.Option.{option_map}
 use Rattle.std.proofs.lemmas.List.{length-reverse}
@@ -27,6 +27,7 @@ use Rattle.target_laws.specs.Laws.{left_by}
 use Rattle.target_laws.proofs.Halts.{run_of}
 use Rattle.target_laws.proofs.Marks.{marked_long, marked_set, marked_end, marked_more}
 use Rattle.target_laws.proofs.Places.{code_at}
+use Rattle.target_laws.proofs.SavedThreads.{is_saved_mode, is_saved, saved_at, saved_of, saved_same, saved_more}
 use Rattle.target_laws.proofs.SeenFrames.{stands_seen}
 use Rattle.target_laws.proofs.Slices.{get_map, map_set, set_same, set_front, get_last, set_last, get_past, map_more, length_set, length_map}
 use Rattle.target_laws.proofs.Turned.{Threads, Spawned, Holds, fits_fresh, state_with, GoesOn, Agrees}
@@ -60,12 +61,15 @@ module _ (p : Lifted) (c : TargetCore) (b : IsBetween p (record c { code = code_
   abbrev ts0 : Threads
   ts0 = seen_threads (code_of p) c.threads
 
-  -- the core after a turn is there, stands for the state, and keeps what is true between two events
+  -- the core after a turn is there, stands for the state, keeps what is true between two events, and has the same threads saved
   abbrev pub Leads : Ran → State → Type 0
-  Leads r s = (d : TargetCore) × (after_turn core t x r ≡ Some d) × (state_of d ≡ s) × IsBetween p d
+  Leads r s = (d : TargetCore) × (after_turn core t x r ≡ Some d) × (state_of d ≡ s) × IsBetween p d × ((u : ℕ) → saved_at d.threads u ≡ saved_at c.threads u)
 
-  view : Option Target → Option (List Frame)
-  view o = option_map (λ y. seen (code_of p) y) o
+  not_saved : is_saved_mode x.mode ≡ false
+  not_saved = ap (λ (k : Target). is_saved_mode k.mode) runs.is
+
+  keeps_saved : (o : Option Target) → is_saved o ≡ false → (u : ℕ) → saved_at (slice_set c.threads t o) u ≡ saved_at c.threads u
+  keeps_saved o h u = saved_same c.threads t u o (h ∙ sym (saved_of c.threads t (Some x) there ∙ not_saved))
 
   seen_there : slice_get ts0 t ≡ Some (Some (seen (code_of p) x))
   seen_there = get_map (λ o. option_map (λ y. seen (code_of p) y) o) c.threads t (Some x) there
@@ -97,7 +101,7 @@ module _ (p : Lifted) (c : TargetCore) (b : IsBetween p (record c { code = code_
         shared = holds.shared ∙ b.shared;
         marked = subst (λ l. Marked memory.marks l) (sym seen_is) marked;
         threads = All-set (λ o. Rests p o) c.threads t (Some y) rests b.threads;
-      })
+      }, keeps_saved (Some y) refl)
 
   stopped_more : (f : Frame) (pc : ℕ) (ws : List Wait) (ret : ℤ) (memory : Memory) (n : ℕ) (ts : Threads) → Stands p f pc → AllWait p ws → Holds p c.memory ts0 memory ts → Spawned p c.memory.marks ts0 memory.marks ts → Leads (Stopped (run_of f pc ws ret memory n)) (state_with p t c.memory ts0 memory ts (reverse (f ∷ frames ws)))
   stopped_more f pc ws ret memory n ts stands wait holds sp =
@@ -136,7 +140,7 @@ module _ (p : Lifted) (c : TargetCore) (b : IsBetween p (record c { code = code_
         shared = holds.shared ∙ b.shared;
         marked = subst (λ l. Marked (begun memory.marks later) l) (sym seen_is) marked2;
         threads = All-push (λ o. Rests p o) (slice_set c.threads t (Some y)) (Some z) (All-set (λ o. Rests p o) c.threads t (Some y) rests b.threads) rests_child;
-      })
+      }, λ u. saved_more (slice_set c.threads t (Some y)) u (Some z) refl ∙ keeps_saved (Some y) refl u)
 
   stopped_by : (f : Frame) (pc : ℕ) (ws : List Wait) (ret : ℤ) (memory : Memory) (n : ℕ) (ts : Threads) → Stands p f pc → AllWait p ws → Holds p c.memory ts0 memory ts → ((memory.marks ≡ c.memory.marks) × (ts ≡ ts0)) ⊎ Spawned p c.memory.marks ts0 memory.marks ts → Leads (Stopped (run_of f pc ws ret memory n)) (state_with p t c.memory ts0 memory ts (reverse (f ∷ frames ws)))
   stopped_by f pc ws ret memory n ts stands wait holds (inl q) = stopped_same f pc ws ret memory n ts stands wait holds q.0 q.1
@@ -153,7 +157,7 @@ module _ (p : Lifted) (c : TargetCore) (b : IsBetween p (record c { code = code_
         shared = b.shared;
         marked = subst (λ l. Marked (ended c.memory.marks t) l) (sym (seen_set None)) (marked_end c.memory.marks ts0 t b.marked);
         threads = All-set (λ o. Rests p o) c.threads t None tt b.threads;
-      })
+      }, keeps_saved None refl)
 
   -- the thread ran some instructions, and all else is as before
   stayed : (n : ℕ) → (state_of (with_target (counted core x.count n) t (Some (record x { count = n }))) ≡ state_of core) × IsBetween p (with_target (counted core x.count n) t (Some (record x { count = n })))
@@ -176,7 +180,7 @@ module _ (p : Lifted) (c : TargetCore) (b : IsBetween p (record c { code = code_
       let g = stopped_by h.frame h.pc h.waits h.returned h.memory h.count h.threads h.stands h.all_wait h.holds h.holds.grown in
       subst (λ k. Leads (Stopped k) s) (sym h.is) (subst (λ k. Leads (Stopped (run_of h.frame h.pc h.waits h.returned h.memory h.count)) k) (sym h.state_is) g)
   leads (Ended memory n) (step.Done s) h able = subst (λ k. Leads (Ended k n) s) (sym h.0) (subst (λ k. Leads (Ended c.memory n) k) (sym h.1) (ended_leads n))
-  leads (Trapped cause n) (step.Trapped cause') h able = let q = stayed n in (with_target (counted core x.count n) t (Some (record x { count = n })), refl, q.0, q.1)
-  leads (Finished code n) (step.Finished code') h able = let q = stayed n in (with_target (counted core x.count n) t (Some (record x { count = n })), refl, q.0, q.1)
+  leads (Trapped cause n) (step.Trapped cause') h able = let q = stayed n in (with_target (counted core x.count n) t (Some (record x { count = n })), refl, q.0, q.1, keeps_saved (Some (record x { count = n })) not_saved)
+  leads (Finished code n) (step.Finished code') h able = let q = stayed n in (with_target (counted core x.count n) t (Some (record x { count = n })), refl, q.0, q.1, keeps_saved (Some (record x { count = n })) not_saved)
   leads Blocked step.Blocked h able = absurd (able refl)
   leads r o h able = absurd h

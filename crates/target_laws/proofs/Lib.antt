@@ -23,3 +23,4 @@ pub mod AfterTurns
 pub mod TurnIsStep
 pub mod SavedThreads
 pub mod UpdateParts
+pub mod Parking

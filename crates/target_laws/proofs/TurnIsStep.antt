@@ -38,6 +38,7 @@ use Rattle.target_laws.proofs.Halts.{run_of}
 use Rattle.target_laws.proofs.Instructions.{Tells, Turning}
 use Rattle.target_laws.proofs.Marks.{marked_long, marked_live, marked_count}
 use Rattle.target_laws.proofs.Places.{Here, here, code_at, place_within}
+use Rattle.target_laws.proofs.SavedThreads.{saved_at}
 use Rattle.target_laws.proofs.SeenFrames.{stands_seen}
 use Rattle.target_laws.proofs.Slices.{get_map}
 use Rattle.target_laws.proofs.Statements.{acted_ends}
@@ -113,10 +114,10 @@ blocked_agrees p t memory ts r o e h = from r (subst (λ k. Agrees p t memory ts
   from _ h = absurd h
 
 -- what a turn of a core leads to
-abbrev Turns : Lifted → Settings → ℕ → TargetCore → Type 0
+abbrev pub Turns : Lifted → Settings → ℕ → TargetCore → Type 0
 Turns p k t c =
     IsBetween p c → Runs c t → step p t (state_of c) ≢ source.Blocked
-    → (n : ℕ) × (d : TargetCore) × (target_next n k c (e.Step t) ≡ Some d) × (state_of d ≡ left_by (state_of c) (step p t (state_of c))) × IsBetween p d
+    → (n : ℕ) × (d : TargetCore) × (target_next n k c (e.Step t) ≡ Some d) × (state_of d ≡ left_by (state_of c) (step p t (state_of c))) × IsBetween p d × ((u : ℕ) → saved_at d.threads u ≡ saved_at c.threads u)
 
 turns : (p : Lifted) (k : Settings) (c : TargetCore) (t : ℕ) → Turns p k t (record c { code = code_of p })
 unfolding target_next
@@ -128,11 +129,15 @@ turns p k c t b r able =
     let ran = turn (setting p t false) a.0 (machine_of x c.memory) in
     let q = leads p c b t x r.is runs ran (step p t (state_of core)) a.1 able in
     let next : target_next a.0 k core (e.Step t) ≡ after_turn core t x ran = ap (λ o. option_and_then (λ y. after_turn core t y (turn (setting_of core t false) a.0 (machine_of y c.memory))) (live_in o)) r.is in
-    (a.0, q.0, next ∙ q.1, q.2, q.3)
+    (a.0, q.0, next ∙ q.1, q.2, q.3, q.4)
+
+-- a turn of a core between two events is a step, and leaves the same threads saved
+pub turns_on : (p : Lifted) (k : Settings) (c : TargetCore) (t : ℕ) → Turns p k t c
+turns_on p k c t b r able = subst (λ code. Turns p k t (record c { code = code })) (sym b.code) (turns p k c t) b r able
 
 -- a turn is a step
 pub turn_is_step : law.ATurnIsAStep
-turn_is_step p k c t b r able = subst (λ code. Turns p k t (record c { code = code })) (sym b.code) (turns p k c t) b r able
+turn_is_step p k c t b r able = let q = turns_on p k c t b r able in (q.0, q.1, q.2, q.3, q.4)
 
 abbrev WaitsToo : Lifted → ℕ → TargetCore → Type 0
 WaitsToo p t c =
