@@ -24,3 +24,6 @@ pub mod TurnIsStep
 pub mod SavedThreads
 pub mod UpdateParts
 pub mod Parking
+pub mod Updating
+pub mod FirstCore
+pub mod Following

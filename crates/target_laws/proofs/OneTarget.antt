@@ -38,14 +38,14 @@ with_longer : (w : Setting) (m n : ℕ) (b : Machine) (d : TargetCore) (f : Ran 
 with_longer w m n b d f over le e = ap f (longer w m n b le (over (go w m b) e)) ∙ e
 
 -- a core where there is one
-abbrev Keeps : Option TargetCore → Option TargetCore → Type 0
+abbrev pub Keeps : Option TargetCore → Option TargetCore → Type 0
 Keeps a b = (c : TargetCore) → a ≡ Some c → b ≡ Some c
 
 on_live : (o : Option Target) (f g : Target → Option TargetCore) → ((x : Target) → Keeps (f x) (g x)) → Keeps (option_and_then f o) (option_and_then g o)
 on_live None f g h c e = e
 on_live (Some x) f g h c e = h x c e
 
-next_longer : (m n : ℕ) (k : Settings) (c : TargetCore) (kind : EventKind) → m ≤ n → Keeps (target_next m k c kind) (target_next n k c kind)
+pub next_longer : (m n : ℕ) (k : Settings) (c : TargetCore) (kind : EventKind) → m ≤ n → Keeps (target_next m k c kind) (target_next n k c kind)
 unfolding target_next
 next_longer m n k c (e.Step t) le =
     on_live (live_in (slice_get c.threads t)) _ _ (λ x d. with_longer (setting_of c t false) m n (advance (machine_of x c.memory)) d (after_turn c t x) (λ r. turn_over c t x r d) le)

@@ -9,8 +9,10 @@ use Rattle.c_tree.specs.declared.state.State.{State}
 use Rattle.c_tree.specs.Able.{is_update_place}
 use Rattle.c_tree.specs.Formed.{IsFormed}
 use Rattle.c_tree.specs.Limits.{max_frames}
+use Rattle.c_tree.specs.Run.{Core, run}
 use Rattle.c_tree.specs.Step.{Outcome, Done, Blocked, top_of, at_frame, step}
 use Rattle.c_tree.specs.Valid.{ValidStack}
+use Rattle.state_laws.specs.Laws.{IsWellArmed}
 use Rattle.store_mem.specs.Memory.{Memory}
 use Rattle.target_code.specs.declared.instr.Instr.{Instr}
 use Rattle.target_code.specs.declared.instr.Instr.TheVariants as i
@@ -96,3 +98,10 @@ abbrev pub ABlockedTurnWaits : Type 0
 ABlockedTurnWaits =
     (p : Lifted) (c : TargetCore) (t : ℕ) → IsBetween p c → (r : Runs c t) → step p t (state_of c) ≡ Blocked
     → (n : ℕ) × (turn (setting_of c t false) n (machine_of r.thread c.memory) ≡ machine.Blocked)
+
+-- the target's run of the events of a run leads to a core that stands for the state that the run leads to, and is that of
+-- the program that runs then; the armed patch, where there is one, is sound and leads to a formed program
+abbrev pub TargetsFollowRuns : Type 0
+TargetsFollowRuns =
+    (k : Settings) (es : List Event) (c : Core) → IsFormed k.program → IsWellArmed k → run k es ≡ Some c
+    → (d : TargetCore) × IsTargetRun k es d × (state_of d ≡ c.state) × IsBetween c.program d
