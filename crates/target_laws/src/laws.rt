@@ -1,6 +1,6 @@
 //! What holds of the target machine and its code.
 
-ghost use Rattle.target_laws.specs.Laws.{JumpsStop, TestsGoForward, MoreFuelIsTheSame, RunsHaveOneTarget, AnUnwindingSaves, ARebuildingLoads, ValidStacksAreSound, ATurnIsAStep, ABlockedTurnWaits};
+ghost use Rattle.target_laws.specs.Laws.{JumpsStop, TestsGoForward, MoreFuelIsTheSame, RunsHaveOneTarget, AnUnwindingSaves, ARebuildingLoads, ValidStacksAreSound, ATurnIsAStep, ABlockedTurnWaits, TargetsFollowRuns};
 
 /// In the code of a formed program each jump goes forward, or to a mark or an `after`, and each
 /// test goes forward.
@@ -38,4 +38,11 @@ pub fn valid_stacks_are_sound()
 pub fn a_turn_is_a_step()
     ensures turn { ATurnIsAStep }
     ensures waits { ABlockedTurnWaits }
+{}
+
+/// The target's run of the events of a run leads to a core that stands for the state that the run
+/// leads to, where the program is formed and the armed patch, if any, is sound and leads to a formed
+/// one. So saving and rebuilding don't show in the state.
+pub fn targets_follow_runs()
+    ensures { TargetsFollowRuns }
 {}

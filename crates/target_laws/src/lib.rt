@@ -8,5 +8,5 @@ mod laws;
 
 pub use laws::{
     a_rebuilding_loads, a_run_has_one_target, a_turn_is_a_step, an_unwinding_saves, jumps_stop,
-    valid_stacks_are_sound,
+    targets_follow_runs, valid_stacks_are_sound,
 };
