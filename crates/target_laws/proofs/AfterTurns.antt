@@ -27,13 +27,10 @@ use Rattle.target_laws.specs.Laws.{left_by}
 use Rattle.target_laws.proofs.Halts.{run_of}
 use Rattle.target_laws.proofs.Marks.{marked_long, marked_set, marked_end, marked_more}
 use Rattle.target_laws.proofs.Places.{code_at}
-use Rattle.target_laws.proofs.SavedThreads.{is_saved_mode, is_saved, saved_at, saved_of, saved_same, saved_more}
+use Rattle.target_laws.proofs.SavedThreads.{Rests, is_saved_mode, is_saved, saved_at, saved_of, saved_same, saved_more}
 use Rattle.target_laws.proofs.SeenFrames.{stands_seen}
 use Rattle.target_laws.proofs.Slices.{get_map, map_set, set_same, set_front, get_last, set_last, get_past, map_more, length_set, length_map}
 use Rattle.target_laws.proofs.Turned.{Threads, Spawned, Holds, fits_fresh, state_with, GoesOn, Agrees}
-
-abbrev Rests : Lifted → Option Target → Type 0
-Rests p o = MatchOption o ⊤ (λ x. IsAtRest p x)
 
 -- a thread that begins a function with one parameter runs
 begins_is : (p : Lifted) (g : ℕ) (v : ℤ) → g < length p.functions → (function_of p g).params ≡ 1 → begins (code_of p) g v ≡ running (fresh p g (v ∷ [])) 1 [] (pos 0) 0

@@ -9,6 +9,7 @@ use Rattle.store_mem.specs.Access.{is_live_mark, is_live_in, live_marks}
 use Rattle.store_mem.specs.Memory.{IsMarkOf, Marked}
 use Rattle.target_laws.proofs.Turned.{Threads}
 
+-- there are as many marks as threads
 pub marked_long : (ms : List ThreadMark) (ts : Threads) → Marked ms ts → length ms ≡ length ts
 marked_long [] [] h = refl
 marked_long (m ∷ ms) (o ∷ ts) h = ap suc (marked_long ms ts h.1)
@@ -23,6 +24,7 @@ one_live Ended (Some fr) h = absurd h
 one_live Live None h = absurd h
 one_live (Fresh f v) None h = absurd h
 
+-- a mark tells whether a thread is live
 pub marked_live : (ms : List ThreadMark) (ts : Threads) (u : ℕ) → Marked ms ts → is_live_in ms u ≡ nat_lt 0 (length (frames_in (slice_get ts u)))
 marked_live [] [] u h = refl
 marked_live (m ∷ ms) (o ∷ ts) zero h = one_live m o h.0
@@ -45,6 +47,7 @@ counted_from n (m ∷ ms) (o ∷ ts) h =
 counted_from n [] (o ∷ ts) h = absurd h
 counted_from n (m ∷ ms) [] h = absurd h
 
+-- the marks tell how many threads are live
 pub marked_count : (ms : List ThreadMark) (ts : Threads) → Marked ms ts → live_marks ms ≡ count_by (λ o. is_some o) ts
 marked_count ms ts h = counted_from 0 ms ts h
 

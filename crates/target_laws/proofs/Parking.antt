@@ -26,12 +26,9 @@ use Rattle.target_laws.specs.Laws.{setting}
 use Rattle.target_laws.specs.SavedFrames.{AreSound}
 use Rattle.target_laws.proofs.Marks.{marked_set}
 use Rattle.target_laws.proofs.Rebuilds.{rebuilding_loads}
-use Rattle.target_laws.proofs.SavedThreads.{is_saved, is_saved_mode}
+use Rattle.target_laws.proofs.SavedThreads.{Rests, is_saved, is_saved_mode}
 use Rattle.target_laws.proofs.Slices.{get_map, map_set, set_same}
 use Rattle.target_laws.proofs.Unwinds.{unwinding_saves}
-
-abbrev Rests : Lifted → Option Target → Type 0
-Rests p o = MatchOption o ⊤ (λ x. IsAtRest p x)
 
 -- an event leads a core to one that stands for the same state, in which one thread is another, saved or not
 pub record Moved (p : Lifted) (k : Settings) (c : TargetCore) (t : ℕ) (kind : EventKind) (saved : Bool) : Type 0 where

@@ -23,6 +23,7 @@ use Rattle.target_code.specs.Operands.{sizes, args_code}
 use Rattle.target_code.specs.Seen.{seen}
 use Rattle.target_code.specs.Target.{Target}
 use Rattle.target_laws.specs.SavedFrames.{AtCall, AreSoundFrom, AreSound}
+use Rattle.target_laws.specs.Laws.{setting}
 use Rattle.target_laws.specs.Laws as law
 use Rattle.target_laws.proofs.Blocks.{HasAt, has_back}
 use Rattle.target_laws.proofs.Halts.{Halts, halts_step, halts_at, run_of}
@@ -30,10 +31,6 @@ use Rattle.target_laws.proofs.Lengths.{args_length}
 use Rattle.target_laws.proofs.Parts.{part_stands}
 use Rattle.target_laws.proofs.Places.{Here, here, mark_here, code_at}
 use Rattle.target_laws.proofs.SeenFrames.{stands_seen, mark_in}
-
--- what a thread of the program p runs in while no flag is set
-abbrev pub unflagged : Lifted → ℕ → Setting
-unflagged p t = record { code = code_of p; number = t; flag = false }
 
 -- the thread is between two turns and stands for these frames
 pub record Rebuilt (p : Lifted) (fs : List Frame) (memory : Memory) (m : Machine) : Type 0 where
@@ -68,7 +65,7 @@ sound_within p (g ∷ rest) f h = h.0.fits.within
 
 module _ (p : Lifted) (t : ℕ) (ret : ℤ) (st : Memory) where
   abbrev w : Setting
-  w = unflagged p t
+  w = setting p t false
 
   -- the zeros of a part
   zeros : (n : ℕ) (f : Frame) (pc k : ℕ) (rest : List Instr) (ws : List Wait) (saved : List Frame) (Q : Ran → Type 0) → HasAt (body_at p f.function) pc (replicate n (i.Const (pos 0)) ++ rest) → ((pc' c : ℕ) (ops : List ℤ) → length ops ≡ k + n → HasAt (body_at p f.function) pc' rest → Halts w (parting f pc' ops ws saved ret st c) Q) → (ops : List ℤ) → length ops ≡ k → (c : ℕ) → Halts w (parting f pc ops ws saved ret st c) Q
@@ -149,4 +146,4 @@ rebuilding_loads p t x memory sound room = from x.saved refl sound room where
       let r = loads p t x.returned memory rest f zeros [] h tt (omega (arith, room)) x.count in
       let q = r.1 in
       let is = rebuilt_is p (f ∷ rest) memory q.0 q.2 in
-      (r.0, q.0, ap (λ b. go (unflagged p t) r.0 b) same ∙ q.1, is.0, is.1, is.2)
+      (r.0, q.0, ap (λ b. go (setting p t false) r.0 b) same ∙ q.1, is.0, is.1, is.2)

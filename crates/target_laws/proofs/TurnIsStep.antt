@@ -38,7 +38,7 @@ use Rattle.target_laws.proofs.Halts.{run_of}
 use Rattle.target_laws.proofs.Instructions.{Tells, Turning}
 use Rattle.target_laws.proofs.Marks.{marked_long, marked_live, marked_count}
 use Rattle.target_laws.proofs.Places.{Here, here, code_at, place_within}
-use Rattle.target_laws.proofs.SavedThreads.{saved_at}
+use Rattle.target_laws.proofs.SavedThreads.{Rests, saved_at}
 use Rattle.target_laws.proofs.SeenFrames.{stands_seen}
 use Rattle.target_laws.proofs.Slices.{get_map}
 use Rattle.target_laws.proofs.Statements.{acted_ends}
@@ -123,7 +123,7 @@ turns : (p : Lifted) (k : Settings) (c : TargetCore) (t : ℕ) → Turns p k t (
 unfolding target_next
 turns p k c t b r able =
     let x = r.thread in
-    let runs = runs_of p x r.mode (all_at (λ o. MatchOption o ⊤ (λ x. IsAtRest p x)) c.threads t (Some x) b.threads r.is) in
+    let runs = runs_of p x r.mode (all_at (λ o. Rests p o) c.threads t (Some x) b.threads r.is) in
     let core = record c { code = code_of p } in
     let a = turn_agrees p c b t x r.is runs in
     let ran = turn (setting p t false) a.0 (machine_of x c.memory) in
@@ -146,7 +146,7 @@ WaitsToo p t c =
 waits_too : (p : Lifted) (c : TargetCore) (t : ℕ) → WaitsToo p t (record c { code = code_of p })
 waits_too p c t b r waits =
     let x = r.thread in
-    let runs = runs_of p x r.mode (all_at (λ o. MatchOption o ⊤ (λ x. IsAtRest p x)) c.threads t (Some x) b.threads r.is) in
+    let runs = runs_of p x r.mode (all_at (λ o. Rests p o) c.threads t (Some x) b.threads r.is) in
     let a = turn_agrees p c b t x r.is runs in
     (a.0, blocked_agrees p t c.memory (seen_threads (code_of p) c.threads) (turn (setting p t false) a.0 (machine_of x c.memory)) (step p t (state_of (record c { code = code_of p }))) waits a.1)
 

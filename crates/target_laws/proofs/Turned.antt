@@ -58,12 +58,15 @@ holds_first p memory ts = record { fields = refl; shared = refl; grown = inl (re
 pub holds_state : (p : Lifted) (mem0 : Memory) (ts0 : Threads) (memory : Memory) (ts : Threads) (st : State) → st.threads ≡ memory.state.threads → Holds p mem0 ts0 memory ts → Holds p mem0 ts0 (record memory { state = st }) ts
 holds_state p mem0 ts0 memory ts st e h = record { fields = h.fields; shared = e ∙ h.shared; grown = h.grown }
 
+-- a frame fits its function with another value in a slot
 pub fits_set : (p : Lifted) (f : Frame) (k : ℕ) (v : ℤ) → FitsFunction p f → FitsFunction p (set_slot k v f)
 fits_set p f k v h = record { within = h.within; slots = length-set f.slots k v ∙ h.slots }
 
+-- and at another place
 pub fits_moved : (p : Lifted) (f : Frame) (n : ℕ) → FitsFunction p f → FitsFunction p (moved n f)
 fits_moved p f n h = record { within = h.within; slots = h.slots }
 
+-- the frame of a call fits its function
 pub fits_fresh : (p : Lifted) (g : ℕ) (vs : List ℤ) → g < length p.functions → length vs ≤ length (function_of p g).slots → FitsFunction p (fresh p g vs)
 fits_fresh p g vs within le =
     let n = length (function_of p g).slots in

@@ -21,16 +21,13 @@ use Rattle.target_code.specs.declared.instr.Instr.TheVariants as i
 use Rattle.target_code.specs.Between.{body_at, Stands, Wait, Waits, AllWait, acts, frames}
 use Rattle.target_code.specs.Code.{body_of, act_code, code_of}
 use Rattle.target_code.specs.Machine.{Setting, Machine, Ran, Unwound, turn, machine_of}
+use Rattle.target_laws.specs.Laws.{setting}
 use Rattle.target_laws.specs.Laws as law
 use Rattle.target_laws.proofs.Blocks.{HasAt}
 use Rattle.target_laws.proofs.Frames.{top_reverse}
 use Rattle.target_laws.proofs.Halts.{Halts, halts_step, halts_at, run_of}
 use Rattle.target_laws.proofs.Places.{here, code_at}
 use Rattle.target_laws.proofs.SeenFrames.{stands_seen}
-
--- what a thread of the program p runs in while the flag is set
-abbrev pub with_flag : Lifted → ℕ → Setting
-with_flag p t = record { code = code_of p; number = t; flag = true }
 
 -- the run ends with these frames saved and the memory as it was
 abbrev pub HasSaved : List Frame → Memory → Ran → Type 0
@@ -45,7 +42,7 @@ moved_to pc x = record { frame = x.frame; pc = pc }
 
 module _ (p : Lifted) (t : ℕ) (ret : ℤ) (memory : Memory) where
   abbrev w : Setting
-  w = with_flag p t
+  w = setting p t true
 
   -- an activation that waits goes to its `after`
   to_after : (x : Wait) (ws : List Wait) (saved : List Frame) (Q : Ran → Type 0) (q : Waits p x) → ((c : ℕ) → Halts w (unwinding (moved_to q.after x) ws saved ret memory c) Q) → (c : ℕ) → Halts w (unwinding x ws saved ret memory c) Q
@@ -81,7 +78,7 @@ flag_second t code at n _ u h = absurd (not_true u)
 
 -- from the mark of an update place a thread unwinds to exactly the frames that it stands for
 pub unwinds_from : (p : Lifted) (t : ℕ) (f : Frame) (pc : ℕ) (ws : List Wait) (ret : ℤ) (memory : Memory) (c : ℕ) → Stands p f pc → AllWait p ws → is_update_place (place_at (function_of p f.function) f.place).act ≡ true
-    → (n : ℕ) × HasSaved (reverse (f ∷ frames ws)) memory (turn (with_flag p t) n (run_of f pc ws ret memory c))
+    → (n : ℕ) × HasSaved (reverse (f ∷ frames ws)) memory (turn (setting p t true) n (run_of f pc ws ret memory c))
 unwinds_from p t f pc ws ret memory c stands waits update =
     let code = code_at p f.function stands.fits.within in
     let fn = function_of p f.function in
@@ -94,7 +91,7 @@ pub unwinding_saves : law.AnUnwindingSaves
 unwinding_saves p t x memory runs update =
     let f = runs.frame in
     let fs = reverse (f ∷ frames runs.waits) in
-    let w = with_flag p t in
+    let w = setting p t true in
     let seen_is : seen (code_of p) x ≡ fs = ap (λ y. seen (code_of p) y) runs.is ∙ stands_seen p f runs.pc runs.waits x.returned x.count runs.stands runs.wait in
     let top_is : top_of (seen (code_of p) x) ≡ f = ap top_of seen_is ∙ top_reverse f (frames runs.waits) in
     let at_is : at_frame p (top_of (seen (code_of p) x)) ≡ place_at (function_of p f.function) f.place = ap (λ g. at_frame p g) top_is ∙ where_is p f runs.stands.fits.within in

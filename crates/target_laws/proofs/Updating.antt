@@ -21,12 +21,9 @@ use Rattle.target_code.specs.Code.{TargetCode, code_of}
 use Rattle.target_code.specs.Seen.{seen, seen_in}
 use Rattle.target_code.specs.Target.{Target}
 use Rattle.target_code.specs.TargetRun.{TargetCore, seen_threads, state_of, with_saved, after_update, updated_by, target_next}
-use Rattle.target_laws.proofs.SavedThreads.{saved_at}
+use Rattle.target_laws.proofs.SavedThreads.{Rests, saved_at}
 use Rattle.target_laws.proofs.Turned.{Threads}
 use Rattle.target_laws.proofs.UpdateParts.{Alike, HaveFrames, marked_alike, parts_of_update}
-
-abbrev Rests : Lifted → Option Target → Type 0
-Rests p o = MatchOption o ⊤ (λ x. IsAtRest p x)
 
 -- each thread that hasn't ended is saved
 abbrev pub EachSaved : List (Option Target) → Type 0
