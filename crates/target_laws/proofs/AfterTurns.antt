@@ -1,11 +1,10 @@
 -- The core after a turn stands for the state that the step leaves.
-use Rattle.std.proofs.Common.{◌≡◌, ◌⊎◌, inl, inr, ℕ, zero, suc, ◌+◌, ◌-◌, ◌<◌, ℤ, pos, true, false, List, [], ◌∷◌, ◌++◌, length, reverse, take, replicate, map, Option, Some, None, refl, sym, ap, ◌∙◌, subst, arith}
-use Rattle.std.specs.Prelude.{All, MatchOption, ⊤, slice_get, slice_set}
+use Rattle.std.proofs.Common.{◌≡◌, ◌⊎◌, inl, inr, ℕ, ◌-◌, ◌<◌, ℤ, pos, false, List, [], ◌∷◌, ◌++◌, length, reverse, take, replicate, Option, Some, None, refl, sym, ap, ◌∙◌, subst, arith}
+use Rattle.std.specs.Prelude.{slice_get, slice_set}
 use Rattle.std.specs.Option.{option_map}
 use Rattle.std.proofs.lemmas.List.{length-reverse}
 use Rattle.std.proofs.lemmas.List.Elements.{All-set, All-push}
 use Rattle.std.proofs.lemmas.Option.{slice_get_within}
-use Rattle.c_tree.specs.declared.event.ThreadMark.{ThreadMark}
 use Rattle.c_tree.specs.declared.event.ThreadMark.TheVariants.{Fresh, Live}
 use Rattle.c_tree.specs.declared.lifted.Lifted.{Lifted}
 use Rattle.c_tree.specs.declared.state.Frame.{Frame}
@@ -17,12 +16,12 @@ use Rattle.store_mem.specs.Laws.{with_threads}
 use Rattle.store_mem.specs.Memory.{Memory, Marked}
 use Rattle.target_code.specs.declared.activation.Mode.TheVariants.{Running}
 use Rattle.target_code.specs.declared.code.CodeFunction.{CodeFunction}
-use Rattle.target_code.specs.Between.{Stands, Wait, AllWait, frames, running, IsRunning, IsAtRest, IsBetween}
+use Rattle.target_code.specs.Between.{Stands, Wait, AllWait, frames, running, IsRunning, IsBetween}
 use Rattle.target_code.specs.Code.{code_of}
-use Rattle.target_code.specs.Machine.{Ran, Stopped, Trapped, Ended, Finished, Unwound, Blocked, Unfinished, Stuck, function_in, target_of, begins}
+use Rattle.target_code.specs.Machine.{Ran, Stopped, Trapped, Ended, Finished, Blocked, function_in, begins}
 use Rattle.target_code.specs.Seen.{seen}
 use Rattle.target_code.specs.Target.{Target}
-use Rattle.target_code.specs.TargetRun.{TargetCore, seen_threads, state_of, counted, with_target, joined_by, with_new_thread, after_turn}
+use Rattle.target_code.specs.TargetRun.{TargetCore, seen_threads, state_of, counted, with_target, joined_by, after_turn}
 use Rattle.target_laws.specs.Laws.{left_by}
 use Rattle.target_laws.proofs.Halts.{run_of}
 use Rattle.target_laws.proofs.Marks.{marked_long, marked_set, marked_end, marked_more}
@@ -30,7 +29,7 @@ use Rattle.target_laws.proofs.Places.{code_at}
 use Rattle.target_laws.proofs.SavedThreads.{Rests, is_saved_mode, is_saved, saved_at, saved_of, saved_same, saved_more}
 use Rattle.target_laws.proofs.SeenFrames.{stands_seen}
 use Rattle.target_laws.proofs.Slices.{get_map, map_set, set_same, set_front, get_last, set_last, get_past, map_more, length_set, length_map}
-use Rattle.target_laws.proofs.Turned.{Threads, Spawned, Holds, fits_fresh, state_with, GoesOn, Agrees}
+use Rattle.target_laws.proofs.Turned.{Threads, Spawned, Holds, fits_fresh, state_with, Agrees}
 
 -- a thread that begins a function with one parameter runs
 begins_is : (p : Lifted) (g : ℕ) (v : ℤ) → g < length p.functions → (function_of p g).params ≡ 1 → begins (code_of p) g v ≡ running (fresh p g (v ∷ [])) 1 [] (pos 0) 0
@@ -90,15 +89,20 @@ module _ (p : Lifted) (c : TargetCore) (b : IsBetween p (record c { code = code_
       seen_set (Some y) ∙ ap (λ l. slice_set ts0 t (Some l)) (stands_seen p f pc ws ret n stands wait) in
       let marked : Marked memory.marks (slice_set ts0 t (Some fr)) =
       subst (λ l. Marked l (slice_set ts0 t (Some fr))) (sym same_marks) (marked_set c.memory.marks ts0 t (seen (code_of p) x) fr b.marked seen_there (some_long f (frames ws))) in
-      let rests : Rests p (Some y) = inl (record { frame = f; pc = pc; waits = ws; is = refl; stands = stands; wait = wait }) in
-      (d, ap (λ o. Some (joined_by d o)) none, ap (λ l. with_threads l memory.state) (seen_is ∙ ap (λ l. slice_set l t (Some fr)) (sym same_ts)), record {
-        formed = b.formed;
-        code = refl;
-        fields = holds.fields ∙ b.fields;
-        shared = holds.shared ∙ b.shared;
-        marked = subst (λ l. Marked memory.marks l) (sym seen_is) marked;
-        threads = All-set (λ o. Rests p o) c.threads t (Some y) rests b.threads;
-      }, keeps_saved (Some y) refl)
+      let rests : Rests p (Some y) = inl (record { frame = f; pc = pc; waits = ws; is = refl; stands = stands; wait = wait }) in (
+        d,
+        ap (λ o. Some (joined_by d o)) none,
+        ap (λ l. with_threads l memory.state) (seen_is ∙ ap (λ l. slice_set l t (Some fr)) (sym same_ts)),
+        record {
+          formed = b.formed;
+          code = refl;
+          fields = holds.fields ∙ b.fields;
+          shared = holds.shared ∙ b.shared;
+          marked = subst (λ l. Marked memory.marks l) (sym seen_is) marked;
+          threads = All-set (λ o. Rests p o) c.threads t (Some y) rests b.threads;
+        },
+        keeps_saved (Some y) refl,
+      )
 
   stopped_more : (f : Frame) (pc : ℕ) (ws : List Wait) (ret : ℤ) (memory : Memory) (n : ℕ) (ts : Threads) → Stands p f pc → AllWait p ws → Holds p c.memory ts0 memory ts → Spawned p c.memory.marks ts0 memory.marks ts → Leads (Stopped (run_of f pc ws ret memory n)) (state_with p t c.memory ts0 memory ts (reverse (f ∷ frames ws)))
   stopped_more f pc ws ret memory n ts stands wait holds sp =
@@ -129,15 +133,20 @@ module _ (p : Lifted) (c : TargetCore) (b : IsBetween p (record c { code = code_
       let marked2 : Marked (begun memory.marks later) (slice_set ts0 t (Some fr) ++ Some (child ∷ []) ∷ []) = subst (λ l. Marked l (slice_set ts0 t (Some fr) ++ Some (child ∷ []) ∷ [])) (sym begun_is) marked1 in
       let rests : Rests p (Some y) = inl (record { frame = f; pc = pc; waits = ws; is = refl; stands = stands; wait = wait }) in
       let child_runs : IsRunning p (running child 1 [] (pos 0) 0) = record { frame = child; pc = 1; waits = []; is = refl; stands = stands_child; wait = tt } in
-      let rests_child : Rests p (Some z) = inl (subst (λ k. IsRunning p k) (sym is) child_runs) in
-      (d, ap (λ o. Some (joined_by c1 o)) mark, ap (λ l. with_threads l memory.state) (seen_is ∙ sym threads_are), record {
-        formed = b.formed;
-        code = refl;
-        fields = holds.fields ∙ b.fields;
-        shared = holds.shared ∙ b.shared;
-        marked = subst (λ l. Marked (begun memory.marks later) l) (sym seen_is) marked2;
-        threads = All-push (λ o. Rests p o) (slice_set c.threads t (Some y)) (Some z) (All-set (λ o. Rests p o) c.threads t (Some y) rests b.threads) rests_child;
-      }, λ u. saved_more (slice_set c.threads t (Some y)) u (Some z) refl ∙ keeps_saved (Some y) refl u)
+      let rests_child : Rests p (Some z) = inl (subst (λ k. IsRunning p k) (sym is) child_runs) in (
+        d,
+        ap (λ o. Some (joined_by c1 o)) mark,
+        ap (λ l. with_threads l memory.state) (seen_is ∙ sym threads_are),
+        record {
+          formed = b.formed;
+          code = refl;
+          fields = holds.fields ∙ b.fields;
+          shared = holds.shared ∙ b.shared;
+          marked = subst (λ l. Marked (begun memory.marks later) l) (sym seen_is) marked2;
+          threads = All-push (λ o. Rests p o) (slice_set c.threads t (Some y)) (Some z) (All-set (λ o. Rests p o) c.threads t (Some y) rests b.threads) rests_child;
+        },
+        λ u. saved_more (slice_set c.threads t (Some y)) u (Some z) refl ∙ keeps_saved (Some y) refl u,
+      )
 
   stopped_by : (f : Frame) (pc : ℕ) (ws : List Wait) (ret : ℤ) (memory : Memory) (n : ℕ) (ts : Threads) → Stands p f pc → AllWait p ws → Holds p c.memory ts0 memory ts → ((memory.marks ≡ c.memory.marks) × (ts ≡ ts0)) ⊎ Spawned p c.memory.marks ts0 memory.marks ts → Leads (Stopped (run_of f pc ws ret memory n)) (state_with p t c.memory ts0 memory ts (reverse (f ∷ frames ws)))
   stopped_by f pc ws ret memory n ts stands wait holds (inl q) = stopped_same f pc ws ret memory n ts stands wait holds q.0 q.1
@@ -146,30 +155,37 @@ module _ (p : Lifted) (c : TargetCore) (b : IsBetween p (record c { code = code_
   -- the thread has ended
   ended_leads : (n : ℕ) → Leads (Ended c.memory n) (record c.memory.state { threads = slice_set ts0 t None })
   ended_leads n =
-      let d : TargetCore = record (with_target (counted core x.count n) t None) { memory = record c.memory { marks = ended c.memory.marks t } } in
-      (d, refl, ap (λ l. with_threads l c.memory.state) (seen_set None), record {
-        formed = b.formed;
-        code = refl;
-        fields = b.fields;
-        shared = b.shared;
-        marked = subst (λ l. Marked (ended c.memory.marks t) l) (sym (seen_set None)) (marked_end c.memory.marks ts0 t b.marked);
-        threads = All-set (λ o. Rests p o) c.threads t None tt b.threads;
-      }, keeps_saved None refl)
+      let d : TargetCore = record (with_target (counted core x.count n) t None) { memory = record c.memory { marks = ended c.memory.marks t } } in (
+        d,
+        refl,
+        ap (λ l. with_threads l c.memory.state) (seen_set None),
+        record {
+          formed = b.formed;
+          code = refl;
+          fields = b.fields;
+          shared = b.shared;
+          marked = subst (λ l. Marked (ended c.memory.marks t) l) (sym (seen_set None)) (marked_end c.memory.marks ts0 t b.marked);
+          threads = All-set (λ o. Rests p o) c.threads t None tt b.threads;
+        },
+        keeps_saved None refl,
+      )
 
   -- the thread ran some instructions, and all else is as before
   stayed : (n : ℕ) → (state_of (with_target (counted core x.count n) t (Some (record x { count = n }))) ≡ state_of core) × IsBetween p (with_target (counted core x.count n) t (Some (record x { count = n })))
   stayed n =
       let y = record x { count = n } in
       let seen_is : seen_threads (code_of p) (slice_set c.threads t (Some y)) ≡ ts0 = seen_set (Some y) ∙ set_same ts0 t (Some (seen (code_of p) x)) seen_there in
-      let runs_on : IsRunning p y = record { frame = runs.frame; pc = runs.pc; waits = runs.waits; is = ap (λ (k : Target). record k { count = n }) runs.is; stands = runs.stands; wait = runs.wait } in
-      (ap (λ l. with_threads l c.memory.state) seen_is, record {
-        formed = b.formed;
-        code = refl;
-        fields = b.fields;
-        shared = b.shared;
-        marked = subst (λ l. Marked c.memory.marks l) (sym seen_is) b.marked;
-        threads = All-set (λ o. Rests p o) c.threads t (Some y) (inl runs_on) b.threads;
-      })
+      let runs_on : IsRunning p y = record { frame = runs.frame; pc = runs.pc; waits = runs.waits; is = ap (λ (k : Target). record k { count = n }) runs.is; stands = runs.stands; wait = runs.wait } in (
+        ap (λ l. with_threads l c.memory.state) seen_is,
+        record {
+          formed = b.formed;
+          code = refl;
+          fields = b.fields;
+          shared = b.shared;
+          marked = subst (λ l. Marked c.memory.marks l) (sym seen_is) b.marked;
+          threads = All-set (λ o. Rests p o) c.threads t (Some y) (inl runs_on) b.threads;
+        },
+      )
 
   -- a turn that ends as the step does leads to what the step leaves
   pub leads : (r : Ran) (o : Outcome) → Agrees p t c.memory ts0 r o → (o ≡ step.Blocked → ⊥) → Leads r (left_by (state_of core) o)

@@ -1,6 +1,6 @@
 -- Each jump of the code goes forward, or to a mark or an `after`.
 use Rattle.std.proofs.Common.{◌≡◌, ◌⊎◌, inl, inr, ℕ, zero, suc, ◌+◌, ◌<◌, ◌≤◌, List, [], ◌∷◌, ◌++◌, length, replicate, Option, Some, None, pos, refl, sym, ◌∙◌, subst, arith}
-use Rattle.std.specs.Prelude.{Bool, false, true, IsTrue, All, slice_get, slice_index_or}
+use Rattle.std.specs.Prelude.{Bool, false, true, All, slice_get, slice_index_or}
 use Rattle.std.proofs.lemmas.Option.{slice_get_within}
 use Rattle.c_tree.specs.declared.lifted.LExpr.{LExpr, more_of-LExpr as only}
 use Rattle.c_tree.specs.declared.lifted.LExpr.TheVariants as e
@@ -30,7 +30,6 @@ use Rattle.target_laws.proofs.Lengths.{expr_length, args_length, dest_length, ac
 use Rattle.target_laws.proofs.Blocks.{HasAt, has_front, has_back, has_all, Blocks, function_blocks}
 use Rattle.target_laws.proofs.Places.{some_same}
 use Rattle.target_laws.proofs.Parts.{part_length}
-
 use Rattle.c_tree.specs.Step.{function_of}
 use Rattle.c_tree.specs.declared.lifted.LFunction.{LFunction}
 use Rattle.c_tree.specs.declared.lifted.Lifted.{Lifted}

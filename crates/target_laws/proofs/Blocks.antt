@@ -6,7 +6,7 @@ use Rattle.c_tree.specs.declared.lifted.LStmt.{LStmt, Row_of-LStmt, end_of-LStmt
 use Rattle.c_tree.specs.declared.lifted.LStmt.TheVariants as s
 use Rattle.c_tree.specs.declared.place.Follow.{Follow}
 use Rattle.c_tree.specs.declared.place.Follow.TheVariants.{One, Two, Leaves}
-use Rattle.c_tree.specs.declared.place.Act.TheVariants.{Enter, Do, Test, EndLoop, Finish}
+use Rattle.c_tree.specs.declared.place.Act.TheVariants.{Enter, Test, EndLoop, Finish}
 use Rattle.c_tree.specs.declared.place.Exits.{Exits}
 use Rattle.c_tree.specs.declared.place.Place.{Place}
 use Rattle.c_tree.specs.Layout.{count, counts, enter, enters, layout, layouts, place, places}
@@ -16,7 +16,7 @@ use Rattle.c_tree.specs.declared.lifted.LStmt.TheBlock.{hidden-the_row-LStmt-0 a
 use Rattle.c_tree.specs.declared.lifted.LFunction.{LFunction}
 use Rattle.c_tree.specs.declared.lifted.Lifted.{Lifted}
 use Rattle.target_code.specs.Code.{marks, body_of, outside, act_code, act_size, over, jump_over, stmt_size, rows_size, stmt_code, rows_code, stmt_marks, rows_marks}
-use Rattle.target_code.specs.Between.{Path, Reaches}
+use Rattle.target_code.specs.Between.{Reaches}
 use Rattle.c_places.proofs.FlowLemmas.{length-layout, length-layouts}
 use Rattle.target_laws.proofs.Lengths.{act_length, over_length, stmt_length, rows_length, marks_length, rows_marks_length}
 

@@ -12,7 +12,6 @@ use Rattle.c_tree.specs.declared.place.Act.TheVariants.{Do}
 use Rattle.c_tree.specs.declared.place.Follow.TheVariants.{One}
 use Rattle.c_tree.specs.declared.place.Place.{Place}
 use Rattle.c_tree.specs.declared.state.Frame.{Frame}
-use Rattle.c_tree.specs.declared.state.State.{State}
 use Rattle.c_tree.specs.declared.state.Trap.TheVariants as trap
 use Rattle.c_tree.specs.Layout.{place, place_at}
 use Rattle.c_tree.specs.Limits.{max_frames}
@@ -26,13 +25,13 @@ use Rattle.target_code.specs.declared.instr.Instr.{Instr}
 use Rattle.target_code.specs.declared.instr.Instr.TheVariants as i
 use Rattle.target_code.specs.Between.{body_at, FitsFunction, Wait, Waits, AllWait, acts, frames}
 use Rattle.target_code.specs.Code.{code_of}
-use Rattle.target_code.specs.Machine.{Setting, Machine, Ran, Trapped, Ended, Finished, function_in, pushed, led, act, go}
+use Rattle.target_code.specs.Machine.{Setting, Machine, Ended, Finished, function_in, pushed, led, act, go}
 use Rattle.target_laws.specs.Laws.{setting}
 use Rattle.target_laws.proofs.Exprs.{put}
 use Rattle.target_laws.proofs.Frames.{reverse_cons, top_reverse, outer_reverse, with_top_reverse}
 use Rattle.target_laws.proofs.Halts.{run_of}
 use Rattle.target_laws.proofs.Places.{code_at}
-use Rattle.target_laws.proofs.Turned.{Threads, Holds, holds_first, fits_set, fits_fresh, Leading, state_with, Agrees, Ends, ends_step, arrives}
+use Rattle.target_laws.proofs.Turned.{Threads, holds_first, fits_set, fits_fresh, Leading, state_with, Agrees, Ends, ends_step, arrives}
 
 module _ (p : Lifted) (t : ℕ) (mem0 : Memory) (ts0 : Threads) where
   abbrev w : Setting

@@ -1,6 +1,6 @@
 -- What the form of a program asks of the statement at each of its places.
 use Rattle.std.proofs.Common.{◌≡◌, ℕ, zero, suc, ◌+◌, ◌<◌, ◌≤◌, true, false, Bool, List, [], ◌∷◌, ◌++◌, length, take, Option, Some, None, refl, sym, ap, ◌∙◌, subst, arith}
-use Rattle.std.specs.Prelude.{slice_get, ⊤, IsTrue, ◌&&◌}
+use Rattle.std.specs.Prelude.{slice_get, ⊤, ◌&&◌}
 use Rattle.std.proofs.lemmas.List.{length-take-le}
 use Rattle.std.proofs.lemmas.Option.{slice_get_within}
 use Rattle.c_tree.specs.declared.lifted.LExpr.{LExpr}
@@ -11,11 +11,11 @@ use Rattle.c_tree.specs.declared.lifted.LStmt.TheBlock.{hidden-the_row-LStmt-0 a
 use Rattle.c_tree.specs.declared.lifted.LStmt.TheVariants as s
 use Rattle.c_tree.specs.declared.lifted.Slot.{Slot}
 use Rattle.c_tree.specs.declared.place.Act.{Act}
-use Rattle.c_tree.specs.declared.place.Act.TheVariants.{Enter, Do, Test, EndLoop, Finish}
+use Rattle.c_tree.specs.declared.place.Act.TheVariants.{Do}
 use Rattle.c_tree.specs.declared.place.Exits.{Exits}
 use Rattle.c_tree.specs.declared.place.Place.{Place}
-use Rattle.c_tree.specs.Formed.{IsFormed, HasSortsIn, HaveSortsIn, IsCall, HasStartForm, AreArguments, PrintFits, PrintsFit}
-use Rattle.c_tree.specs.Layout.{count, counts, enter, enters, layout, layouts, places, place_at, nowhere, size_of}
+use Rattle.c_tree.specs.Formed.{IsFormed, HasSortsIn, IsCall, HasStartForm, AreArguments, PrintFits, PrintsFit}
+use Rattle.c_tree.specs.Layout.{count, counts, enter, enters, layout, layouts, places, place_at, nowhere}
 use Rattle.c_tree.specs.StartForm.{CanStart, takes_one_pointer, parameters_of}
 use Rattle.c_tree.specs.Step.{function_of, no_function}
 use Rattle.c_tree.specs.Types.{is_any_pointer}

@@ -1,17 +1,15 @@
 -- Where a formed program starts, the core stands for the first state.
-use Rattle.std.proofs.Common.{◌≡◌, inl, ℕ, ◌+◌, ◌-◌, ◌<◌, ℤ, pos, List, [], ◌∷◌, ◌++◌, length, take, replicate, Option, Some, None, refl, sym, ap, ◌∙◌, subst, arith}
+use Rattle.std.proofs.Common.{◌≡◌, inl, ℕ, ◌-◌, ◌<◌, pos, List, [], ◌∷◌, ◌++◌, length, take, replicate, Option, Some, None, refl, sym, ap, ◌∙◌, subst, arith}
 use Rattle.std.specs.Prelude.{slice_get, MatchOption, ⊤}
 use Rattle.std.proofs.lemmas.List.Elements.{All-nil, All-cons}
 use Rattle.std.proofs.lemmas.Option.{slice_get_within}
 use Rattle.c_tree.specs.declared.lifted.LFunction.{LFunction}
 use Rattle.c_tree.specs.declared.lifted.Lifted.{Lifted}
-use Rattle.c_tree.specs.declared.state.Frame.{Frame}
 use Rattle.c_tree.specs.Formed.{IsFormed, IsMain}
 use Rattle.c_tree.specs.Start.{start}
 use Rattle.c_tree.specs.Step.{function_of, fresh}
 use Rattle.state_laws.proofs.Places.{function_told}
 use Rattle.store_mem.specs.Laws.{with_threads}
-use Rattle.store_mem.specs.Memory.{Marked}
 use Rattle.target_code.specs.declared.activation.Mode.TheVariants.{Running}
 use Rattle.target_code.specs.declared.code.CodeFunction.{CodeFunction}
 use Rattle.target_code.specs.Between.{Stands, running, IsRunning, IsAtRest, IsBetween}
@@ -22,7 +20,7 @@ use Rattle.target_code.specs.Target.{Target}
 use Rattle.target_code.specs.TargetRun.{core_of, state_of}
 use Rattle.target_laws.proofs.Places.{code_at}
 use Rattle.target_laws.proofs.SeenFrames.{stands_seen}
-use Rattle.target_laws.proofs.Turned.{Threads, fits_fresh}
+use Rattle.target_laws.proofs.Turned.{fits_fresh}
 
 main_is : (p : Lifted) (o : Option LFunction) → slice_get p.functions p.main ≡ o → IsMain o → (p.main < length p.functions) × ((function_of p p.main).params ≡ 0)
 main_is p None e h = absurd h
@@ -54,12 +52,14 @@ first_between p input formed =
     let seen_is : seen (code_of p) x ≡ f ∷ [] = ap (λ k. seen (code_of p) k) is ∙ stands_seen p f 1 [] (pos 0) 0 stands tt in
     let there : IsRunning p (running f 1 [] (pos 0) 0) = record { frame = f; pc = 1; waits = []; is = refl; stands = stands; wait = tt } in
     let runs : IsAtRest p x = inl (subst (λ k. IsRunning p k) (sym is) there) in
-    let long : 0 < length (f ∷ []) = omega arith in
-    (ap (λ l. with_threads (Some l ∷ []) (start p input)) seen_is, record {
-      formed = formed;
-      code = refl;
-      fields = refl;
-      shared = refl;
-      marked = (subst (λ l. 0 < length l) (sym seen_is) long, tt);
-      threads = All-cons (λ o. MatchOption o ⊤ (λ x. IsAtRest p x)) (Some x) [] runs (All-nil (λ o. MatchOption o ⊤ (λ x. IsAtRest p x)));
-    })
+    let long : 0 < length (f ∷ []) = omega arith in (
+      ap (λ l. with_threads (Some l ∷ []) (start p input)) seen_is,
+      record {
+        formed = formed;
+        code = refl;
+        fields = refl;
+        shared = refl;
+        marked = (subst (λ l. 0 < length l) (sym seen_is) long, tt);
+        threads = All-cons (λ o. MatchOption o ⊤ (λ x. IsAtRest p x)) (Some x) [] runs (All-nil (λ o. MatchOption o ⊤ (λ x. IsAtRest p x)));
+      },
+    )

@@ -1,6 +1,6 @@
 -- The target's run follows the run of the source.
-use Rattle.std.proofs.Common.{◌≡◌, ◌⊎◌, inl, inr, ℕ, zero, suc, ◌+◌, ◌<◌, ◌≤◌, Bool, true, false, List, [], ◌∷◌, ◌++◌, length, map, Option, Some, None, Result, Ok, Err, refl, sym, ap, ◌∙◌, subst, arith, lt-ltb, append_assoc, ◌==◌}
-use Rattle.std.specs.Prelude.{All, MatchOption, ⊤, fold, slice_get}
+use Rattle.std.proofs.Common.{◌≡◌, inl, inr, ℕ, zero, suc, ◌+◌, ◌<◌, true, false, List, [], ◌∷◌, ◌++◌, length, Option, Some, None, Result, Ok, Err, refl, sym, ap, ◌∙◌, subst, arith, lt-ltb, append_assoc, ◌==◌}
+use Rattle.std.specs.Prelude.{All, MatchOption, ⊤, slice_get}
 use Rattle.std.specs.Option.{option_map}
 use Rattle.std.specs.List.{list_any}
 use Rattle.std.proofs.lemmas.List.{append-nil}
@@ -15,7 +15,6 @@ use Rattle.c_tree.specs.declared.event.EventKind.TheVariants as e
 use Rattle.c_tree.specs.declared.event.Reason.{Reason}
 use Rattle.c_tree.specs.declared.event.Reason.TheVariants as reason
 use Rattle.c_tree.specs.declared.lifted.Lifted.{Lifted}
-use Rattle.c_tree.specs.declared.place.Place.{Place}
 use Rattle.c_tree.specs.declared.run.Armed.{Armed}
 use Rattle.c_tree.specs.declared.run.Phase.TheVariants as phase
 use Rattle.c_tree.specs.declared.run.Settings.{Settings}
@@ -23,7 +22,7 @@ use Rattle.c_tree.specs.declared.state.Frame.{Frame}
 use Rattle.c_tree.specs.declared.state.State.{State}
 use Rattle.c_tree.specs.Able.{able, is_update_place}
 use Rattle.c_tree.specs.Formed.{IsFormed}
-use Rattle.c_tree.specs.Run.{Core, first, after, run, run_from, next, stepped, decided, new_program, is_parked, is_after, may_resume, without}
+use Rattle.c_tree.specs.Run.{Core, first, run, run_from, next, stepped, decided, new_program, is_parked, is_after, without}
 use Rattle.c_tree.specs.Step.{Outcome, Done, Trapped, Finished, Blocked, frames_at, frames_in, is_live, top_of, at_frame, step}
 use Rattle.c_tree.specs.Update.{update}
 use Rattle.c_tree.specs.Valid.{Valid, ValidStack, ChainedFrames}
@@ -34,19 +33,18 @@ use Rattle.state_laws.proofs.ParkedStand.{step_parts, park_parts, live_of_standi
 use Rattle.state_laws.proofs.UpdateShape.{one_more}
 use Rattle.state_laws.proofs.WholeRuns.{whole_run_is_valid}
 use Rattle.state_laws.proofs.Zips.{all_at}
-use Rattle.target_code.specs.declared.activation.Mode.TheVariants.{Running, Saved}
-use Rattle.target_code.specs.Between.{IsRunning, IsSaved, IsAtRest, IsBetween}
+use Rattle.target_code.specs.declared.activation.Mode.TheVariants.{Saved}
+use Rattle.target_code.specs.Between.{IsRunning, IsAtRest, IsBetween}
 use Rattle.target_code.specs.Code.{TargetCode, code_of}
 use Rattle.target_code.specs.Seen.{seen, seen_in}
 use Rattle.target_code.specs.Target.{Target}
 use Rattle.target_code.specs.TargetRun.{TargetCore, seen_threads, state_of, target_first, target_next, target_after, target_run, IsTargetRun}
 use Rattle.target_laws.specs.Laws.{left_by, Runs}
 use Rattle.target_laws.specs.Laws as law
-use Rattle.target_laws.specs.SavedFrames.{AreSound}
 use Rattle.target_laws.proofs.FirstCore.{first_between}
 use Rattle.target_laws.proofs.OneTarget.{more_fuel, next_longer}
-use Rattle.target_laws.proofs.Parking.{Moved, parks_on, resumes_on}
-use Rattle.target_laws.proofs.SavedThreads.{is_saved, is_saved_mode, saved_at, saved_of, mode_saved, parks, resumes}
+use Rattle.target_laws.proofs.Parking.{parks_on, resumes_on}
+use Rattle.target_laws.proofs.SavedThreads.{is_saved_mode, saved_at, saved_of, mode_saved, parks, resumes}
 use Rattle.target_laws.proofs.Slices.{get_map}
 use Rattle.target_laws.proofs.Sounds.{valid_stacks_are_sound}
 use Rattle.target_laws.proofs.TurnIsStep.{turns_on}
@@ -124,12 +122,16 @@ parks_follow k c d t h stands free =
     let r = runs_at c d t h stands.0 free in
     let code_is : seen (code_of c.program) r.thread ≡ frames_at c.state t = sym (ap (λ k. seen k r.thread) h.between.code) ∙ r.seen_is in
     let update : is_update_place (at_frame c.program (top_of (seen (code_of c.program) r.thread))).act ≡ true = ap (λ l. is_update_place (at_frame c.program (top_of l)).act) code_is ∙ stands.1 in
-    let m = parks_on c.program k d t r.thread h.between r.there r.runs update in
-    (m.fuel, m.core, m.next, record {
-      state = m.state ∙ h.state;
-      between = m.between;
-      parked = λ u. parks c.parked d.threads t m.thread (live_within d t r.thread r.there) m.is_so h.parked u ∙ ap (λ l. saved_at l u) (sym m.threads);
-    })
+    let m = parks_on c.program k d t r.thread h.between r.there r.runs update in (
+      m.fuel,
+      m.core,
+      m.next,
+      record {
+        state = m.state ∙ h.state;
+        between = m.between;
+        parked = λ u. parks c.parked d.threads t m.thread (live_within d t r.thread r.there) m.is_so h.parked u ∙ ap (λ l. saved_at l u) (sym m.threads);
+      },
+    )
 
 get_saved : (ts : List (Option Target)) (t : ℕ) → saved_at ts t ≡ true → (x : Target) × (slice_get ts t ≡ Some (Some x)) × (is_saved_mode x.mode ≡ true)
 get_saved [] zero h = absurd (true_false (sym h))
@@ -147,12 +149,16 @@ resumes_follow k c d t h valid parked =
     let there : slice_get c.state.threads t ≡ Some (Some x.saved) =
     ap (λ l. slice_get l t) (sym (threads_are c d h)) ∙ (get_map (λ o. option_map (λ y. seen d.code y) o) d.threads t (Some x) s.1 ∙ ap (λ l. Some (Some l)) seen_is) in
     let stack = all_at (λ o. MatchOption o ⊤ (λ frames. ValidStack c.program (length c.state.heap.objects) frames)) c.state.threads t (Some x.saved) valid.stacks there in
-    let m = resumes_on c.program k d t x h.between s.1 mode (valid_stacks_are_sound c.program (length c.state.heap.objects) x.saved stack) stack.depth in
-    (m.fuel, m.core, m.next, record {
-      state = m.state ∙ h.state;
-      between = m.between;
-      parked = λ u. resumes c.parked d.threads t m.thread (live_within d t x s.1) m.is_so h.parked u ∙ ap (λ l. saved_at l u) (sym m.threads);
-    })
+    let m = resumes_on c.program k d t x h.between s.1 mode (valid_stacks_are_sound c.program (length c.state.heap.objects) x.saved stack) stack.depth in (
+      m.fuel,
+      m.core,
+      m.next,
+      record {
+        state = m.state ∙ h.state;
+        between = m.between;
+        parked = λ u. resumes c.parked d.threads t m.thread (live_within d t x s.1) m.is_so h.parked u ∙ ap (λ l. saved_at l u) (sym m.threads);
+      },
+    )
 
 chained_long : (p : Lifted) (fr : List Frame) → ChainedFrames p fr → 0 < length fr
 chained_long p [] h = absurd h

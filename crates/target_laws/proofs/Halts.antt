@@ -1,12 +1,10 @@
 -- Runs that end in a given way.
-use Rattle.std.proofs.Common.{◌≡◌, ℕ, zero, suc, ◌+◌, ℤ, List, [], ◌∷◌, Option, Some, sym, ap, ◌∙◌, subst}
-use Rattle.c_tree.specs.declared.lifted.Lifted.{Lifted}
+use Rattle.std.proofs.Common.{◌≡◌, ℕ, zero, suc, ℤ, List, [], Option, Some, sym, ap, ◌∙◌, subst}
 use Rattle.c_tree.specs.declared.state.Frame.{Frame}
 use Rattle.store_mem.specs.Memory.{Memory}
 use Rattle.target_code.specs.declared.activation.Mode.TheVariants.{Running}
 use Rattle.target_code.specs.declared.instr.Instr.{Instr}
 use Rattle.target_code.specs.Between.{Wait, acts}
-use Rattle.target_code.specs.Code.{code_of}
 use Rattle.target_code.specs.Machine.{Setting, Machine, Ran, Did, Goes, Over, led, act, instr_at, go}
 
 -- a run from the machine ends in a way that has the property

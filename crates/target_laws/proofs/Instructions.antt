@@ -1,6 +1,6 @@
 -- What one instruction of a statement does is what the step does.
-use Rattle.std.proofs.Common.{◌≡◌, inl, inr, ℕ, zero, suc, ◌+◌, ◌<◌, ◌≤◌, ◌==◌, ◌&&◌, ℤ, pos, negsuc, Bool, true, false, List, [], ◌∷◌, ◌++◌, length, reverse, take, drop, replicate, Option, Some, None, Result, Ok, Err, refl, sym, ap, ◌∙◌, subst, arith, le_of_eq}
-use Rattle.std.specs.Prelude.{slice_get, slice_set, slice_index_or, if◌then◌else◌, nat_lt, nat_le, unwrap_or}
+use Rattle.std.proofs.Common.{◌≡◌, inr, ℕ, zero, suc, ◌+◌, ◌<◌, ◌≤◌, ◌==◌, ◌&&◌, ℤ, pos, negsuc, Bool, true, false, List, [], ◌∷◌, ◌++◌, length, reverse, take, drop, Some, Result, Ok, Err, refl, sym, ap, ◌∙◌, subst, le_of_eq}
+use Rattle.std.specs.Prelude.{slice_get, slice_index_or, if◌then◌else◌, nat_lt, nat_le, unwrap_or}
 use Rattle.std.proofs.lemmas.List.{take_all, length-reverse, reverse-reverse}
 use Rattle.std.proofs.Math.ListN.{drop_of_length-le}
 use mathlib.Core.List.{reverse_aux}
@@ -21,7 +21,7 @@ use Rattle.c_tree.specs.Step as step
 use Rattle.c_tree.specs.Typing.{directives}
 use Rattle.c_tree.specs.Value.{and_then, is_true}
 use Rattle.store_mem.proofs.AccessLemmas.{stores-element, stores-field, written-threads, field_written-threads, put-threads}
-use Rattle.store_mem.specs.Access.{written, field_written, set_scalar, is_live_in, live_marks}
+use Rattle.store_mem.specs.Access.{written, field_written, is_live_in, live_marks}
 use Rattle.store_mem.specs.Access.{put as put_text}
 use Rattle.store_mem.specs.Laws.{with_threads, IgnoresThreads, GivesIgnoringThreads}
 use Rattle.store_mem.specs.Memory.{Memory, field_counts}

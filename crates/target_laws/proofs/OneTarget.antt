@@ -1,5 +1,5 @@
 -- More fuel leads the target machine to the same core, so its run leads to one.
-use Rattle.std.proofs.Common.{◌≡◌, ℕ, ◌+◌, ◌≤◌, List, [], ◌∷◌, Option, Some, None, refl, sym, ap, ◌∙◌, arith}
+use Rattle.std.proofs.Common.{◌≡◌, ℕ, ◌+◌, ◌≤◌, List, [], ◌∷◌, Option, Some, None, refl, ap, ◌∙◌, arith}
 use Rattle.std.specs.Prelude.{true, false, fold, slice_get}
 use Rattle.std.specs.Option.{option_and_then}
 use Rattle.c_tree.specs.declared.event.Event.{Event}
@@ -8,7 +8,7 @@ use Rattle.c_tree.specs.declared.event.EventKind.TheVariants as e
 use Rattle.c_tree.specs.declared.run.Settings.{Settings}
 use Rattle.target_code.specs.Machine.{Machine, Setting, Ran, Stopped, Trapped, Ended, Finished, Unwound, Blocked, Unfinished, Stuck, go, advance, machine_of, rebuilds}
 use Rattle.target_code.specs.Target.{Target}
-use Rattle.target_code.specs.TargetRun.{TargetCore, setting_of, after_turn, after_unwinding, after_rebuilding, live_in, on_thread, target_first, target_next, target_after, target_run, IsTargetRun}
+use Rattle.target_code.specs.TargetRun.{TargetCore, setting_of, after_turn, after_unwinding, after_rebuilding, live_in, target_first, target_next, target_after, target_run}
 use Rattle.target_laws.proofs.Over.{IsOver, longer}
 use Rattle.target_laws.specs.Laws as law
 

@@ -1,14 +1,12 @@
 -- Parking and resuming lead the core to the same state.
-use Rattle.std.proofs.Common.{◌≡◌, inl, inr, ℕ, ◌+◌, ◌<◌, ◌≤◌, Bool, true, false, List, [], ◌∷◌, ◌++◌, length, map, reverse, Option, Some, None, refl, sym, ap, ◌∙◌, subst, arith}
-use Rattle.std.specs.Prelude.{All, MatchOption, ⊤, slice_get, slice_set}
+use Rattle.std.proofs.Common.{◌≡◌, inl, inr, ℕ, ◌≤◌, Bool, true, false, ◌++◌, length, map, reverse, Option, Some, refl, sym, ap, ◌∙◌, subst}
+use Rattle.std.specs.Prelude.{All, slice_get, slice_set}
 use Rattle.std.specs.Option.{option_and_then, option_map}
-use Rattle.std.proofs.lemmas.List.{length-reverse}
 use Rattle.std.proofs.lemmas.List.Elements.{All-set}
 use Rattle.c_tree.specs.declared.event.EventKind.{EventKind}
 use Rattle.c_tree.specs.declared.event.EventKind.TheVariants as e
 use Rattle.c_tree.specs.declared.lifted.Lifted.{Lifted}
 use Rattle.c_tree.specs.declared.run.Settings.{Settings}
-use Rattle.c_tree.specs.declared.state.Frame.{Frame}
 use Rattle.c_tree.specs.Able.{is_update_place}
 use Rattle.c_tree.specs.Limits.{max_frames}
 use Rattle.c_tree.specs.Step.{top_of, at_frame}
@@ -16,15 +14,14 @@ use Rattle.store_mem.specs.Laws.{with_threads}
 use Rattle.store_mem.specs.Memory.{Memory, Marked}
 use Rattle.target_code.specs.declared.activation.Mode.{Mode}
 use Rattle.target_code.specs.declared.activation.Mode.TheVariants.{Saved}
-use Rattle.target_code.specs.Between.{frames, running, IsRunning, IsAtRest, IsBetween}
+use Rattle.target_code.specs.Between.{IsRunning, IsAtRest, IsBetween}
 use Rattle.target_code.specs.Code.{code_of}
-use Rattle.target_code.specs.Machine.{Stopped, Unwound, turn, go, machine_of, rebuilds, target_of, all_saved}
+use Rattle.target_code.specs.Machine.{turn, go, machine_of, rebuilds, target_of, all_saved}
 use Rattle.target_code.specs.Seen.{seen, seen_in}
 use Rattle.target_code.specs.Target.{Target}
 use Rattle.target_code.specs.TargetRun.{TargetCore, seen_threads, state_of, setting_of, counted, with_target, trace_mark, live_in, after_unwinding, after_rebuilding, target_next}
 use Rattle.target_laws.specs.Laws.{setting}
 use Rattle.target_laws.specs.SavedFrames.{AreSound}
-use Rattle.target_laws.proofs.Marks.{marked_set}
 use Rattle.target_laws.proofs.Rebuilds.{rebuilding_loads}
 use Rattle.target_laws.proofs.SavedThreads.{Rests, is_saved, is_saved_mode}
 use Rattle.target_laws.proofs.Slices.{get_map, map_set, set_same}

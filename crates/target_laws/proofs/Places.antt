@@ -20,7 +20,7 @@ use Rattle.c_tree.specs.Step.{function_of, no_function}
 use Rattle.target_code.specs.declared.instr.Instr.{Instr}
 use Rattle.target_code.specs.declared.instr.Instr.TheVariants as i
 use Rattle.target_code.specs.declared.code.CodeFunction.{CodeFunction}
-use Rattle.target_code.specs.Code.{TargetCode, marks, body_of, rows_size, rows_marks, act_code, act_size, function_code, functions_code, code_of, text_number, texts_at, texts_in, texts_of}
+use Rattle.target_code.specs.Code.{marks, body_of, rows_size, rows_marks, act_code, act_size, function_code, functions_code, code_of, text_number, texts_at, texts_in, texts_of}
 use Rattle.target_code.specs.Machine.{no_code, function_in}
 use Rattle.c_places.proofs.FlowLemmas.{length-layouts}
 use Rattle.target_laws.proofs.Lengths.{rows_marks_length}

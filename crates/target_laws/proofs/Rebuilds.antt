@@ -1,5 +1,5 @@
 -- A rebuilding ends with the saved frames as activations, at the innermost frame's mark.
-use Rattle.std.proofs.Common.{◌≡◌, inr, ℕ, zero, suc, ◌+◌, ◌-◌, ◌<◌, ◌≤◌, ℤ, pos, true, false, List, [], ◌∷◌, ◌++◌, length, reverse, take, drop, replicate, Option, Some, refl, sym, ap, ◌∙◌, subst, arith, lt-ltb}
+use Rattle.std.proofs.Common.{◌≡◌, inr, ℕ, zero, suc, ◌+◌, ◌-◌, ◌<◌, ◌≤◌, ℤ, pos, true, false, List, [], ◌∷◌, ◌++◌, length, reverse, take, drop, replicate, Some, refl, sym, ap, ◌∙◌, subst, arith, lt-ltb}
 use Rattle.std.specs.Prelude.{slice_get, nat_lt, slice_index_or}
 use Rattle.std.proofs.Math.ListN.{drop_of_length-le}
 use Rattle.std.proofs.lemmas.Option.{get_or_from_slice_get}
@@ -16,13 +16,12 @@ use Rattle.target_code.specs.declared.activation.Mode.TheVariants.{Rebuilding}
 use Rattle.target_code.specs.declared.code.CodeFunction.{CodeFunction}
 use Rattle.target_code.specs.declared.instr.Instr.{Instr}
 use Rattle.target_code.specs.declared.instr.Instr.TheVariants as i
-use Rattle.target_code.specs.Between.{body_at, Reaches, Stands, Wait, Waits, AllWait, acts, frames, running, IsRunning}
+use Rattle.target_code.specs.Between.{body_at, Reaches, Stands, Wait, Waits, AllWait, acts, frames, IsRunning}
 use Rattle.target_code.specs.Code.{act_size, marks, body_of, part, code_of}
 use Rattle.target_code.specs.Machine.{Setting, Machine, Ran, Stopped, function_in, part_at, pushed, go, rebuilds, target_of}
 use Rattle.target_code.specs.Operands.{sizes, args_code}
 use Rattle.target_code.specs.Seen.{seen}
-use Rattle.target_code.specs.Target.{Target}
-use Rattle.target_laws.specs.SavedFrames.{AtCall, AreSoundFrom, AreSound}
+use Rattle.target_laws.specs.SavedFrames.{AreSoundFrom, AreSound}
 use Rattle.target_laws.specs.Laws.{setting}
 use Rattle.target_laws.specs.Laws as law
 use Rattle.target_laws.proofs.Blocks.{HasAt, has_back}
@@ -30,7 +29,7 @@ use Rattle.target_laws.proofs.Halts.{Halts, halts_step, halts_at, run_of}
 use Rattle.target_laws.proofs.Lengths.{args_length}
 use Rattle.target_laws.proofs.Parts.{part_stands}
 use Rattle.target_laws.proofs.Places.{Here, here, mark_here, code_at}
-use Rattle.target_laws.proofs.SeenFrames.{stands_seen, mark_in}
+use Rattle.target_laws.proofs.SeenFrames.{stands_seen}
 
 -- the thread is between two turns and stands for these frames
 pub record Rebuilt (p : Lifted) (fs : List Frame) (memory : Memory) (m : Machine) : Type 0 where
@@ -82,17 +81,21 @@ module _ (p : Lifted) (t : ℕ) (ret : ℤ) (st : Memory) where
       let mark : slice_get (body_at p f.function) pc ≡ Some (i.Mark f.place) = subst (λ (k : CodeFunction). slice_get k.body pc ≡ Some (i.Mark f.place)) (sym code.is) (mark_here p code.t (function_of p f.function) f.place pc stands.mark) in
       let at : slice_index_or (function_in (code_of p) f.function).marks f.place 0 ≡ pc = subst (λ (k : CodeFunction). slice_index_or k.marks f.place 0 ≡ pc) (sym code.is) (get_or_from_slice_get (marks (function_of p f.function)) f.place pc 0 stands.mark) in
       let Q = HasRebuilt p (reverse_aux (frames ws) (f ∷ [])) st in
-      let there : Halts w (run_of f pc ws ret st (c + 1)) Q = halts_at w (run_of f pc ws ret st (c + 1)) (i.Mark f.place) (Stopped (run_of f pc ws ret st (c + 1))) Q mark refl (run_of f pc ws ret st (c + 1), refl, record {
-        frame = f;
-        pc = pc;
-        waits = ws;
-        returned = ret;
-        count = c + 1;
-        is = refl;
-        stands = stands;
-        all_wait = waits;
-        frames_are = refl;
-      }) in
+      let there : Halts w (run_of f pc ws ret st (c + 1)) Q = halts_at w (run_of f pc ws ret st (c + 1)) (i.Mark f.place) (Stopped (run_of f pc ws ret st (c + 1))) Q mark refl (
+        run_of f pc ws ret st (c + 1),
+        refl,
+        record {
+          frame = f;
+          pc = pc;
+          waits = ws;
+          returned = ret;
+          count = c + 1;
+          is = refl;
+          stands = stands;
+          all_wait = waits;
+          frames_are = refl;
+        },
+      ) in
       halts_step w (loading f slots ws (f ∷ []) ret st c) (run_of f (slice_index_or (function_in (code_of p) f.function).marks f.place 0) ws ret st (c + 1)) i.Restore Q first refl (subst (λ k. Halts w (run_of f k ws ret st (c + 1)) Q) (sym at) there)
   loads (g ∷ rest) f slots ws sound waits room c =
       let q = sound.0 in

@@ -1,5 +1,5 @@
 -- The stack of a valid state is sound to rebuild.
-use Rattle.std.proofs.Common.{◌≡◌, ℕ, suc, ℤ, List, [], ◌∷◌, length, refl, All, Some, Option, ap, sym, arith}
+use Rattle.std.proofs.Common.{◌≡◌, ℕ, suc, ℤ, List, [], ◌∷◌, length, refl, All, Some, Option, ap, arith}
 use Rattle.std.specs.Prelude.{slice_get}
 use Rattle.c_tree.specs.declared.lifted.LExpr.{LExpr}
 use Rattle.c_tree.specs.declared.lifted.LStmt.TheVariants as s
@@ -12,7 +12,7 @@ use Rattle.c_tree.specs.declared.place.Follow.TheVariants.{One, Two, Leaves}
 use Rattle.c_tree.specs.declared.state.Frame.{Frame}
 use Rattle.c_tree.specs.Layout.{place, place_at}
 use Rattle.c_tree.specs.Step.{function_of}
-use Rattle.c_tree.specs.Valid.{Fits, ValidFrame, ValidStack, IsCallOf, Chained, ChainedFrames}
+use Rattle.c_tree.specs.Valid.{Fits, ValidFrame, IsCallOf, Chained, ChainedFrames}
 use Rattle.target_code.specs.Between.{FitsFunction}
 use Rattle.target_code.specs.Code.{marks}
 use Rattle.target_laws.specs.Laws as law

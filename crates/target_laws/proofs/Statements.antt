@@ -1,5 +1,5 @@
 -- The instructions of a place do what the step does there.
-use Rattle.std.proofs.Common.{◌≡◌, ℕ, zero, suc, ◌+◌, ℤ, pos, Bool, true, false, List, [], ◌∷◌, ◌++◌, length, reverse, Option, Some, None, Result, Ok, Err, refl, sym, ap, ◌∙◌, subst, arith}
+use Rattle.std.proofs.Common.{◌≡◌, ℕ, ◌+◌, ℤ, pos, Bool, false, List, [], ◌∷◌, ◌++◌, length, Option, Some, None, Result, Ok, refl, sym, ap, ◌∙◌, subst, arith}
 use Rattle.std.specs.Prelude.{slice_get, slice_index_or, if◌then◌else◌, unwrap_or}
 use mathlib.Core.List.{reverse_aux}
 use Rattle.c_tree.specs.declared.lifted.Dest.{Dest}
@@ -26,10 +26,10 @@ use Rattle.c_tree.specs.Value.{is_true, value}
 use Rattle.store_mem.proofs.AccessLemmas.{makes-object, gets-byte, frees-object, locks-mutex, unlocks-mutex, made-threads, got-threads, freed-threads, locked-threads, unlocked-threads}
 use Rattle.store_mem.specs.Access as access
 use Rattle.store_mem.specs.Laws.{with_threads}
-use Rattle.store_mem.specs.Memory.{Memory, field_counts}
+use Rattle.store_mem.specs.Memory.{Memory}
 use Rattle.target_code.specs.declared.instr.Instr.{Instr}
 use Rattle.target_code.specs.declared.instr.Instr.TheVariants as i
-use Rattle.target_code.specs.Between.{body_at, Wait, AllWait, frames}
+use Rattle.target_code.specs.Between.{body_at, Wait}
 use Rattle.target_code.specs.Code.{do_code, act_code, act_size, marks}
 use Rattle.target_code.specs.Machine.{Setting, Machine}
 use Rattle.target_code.specs.Operands.{size, sizes, expr_code, args_code, dest_size, dest_code, store_instr}
@@ -39,7 +39,7 @@ use Rattle.target_laws.proofs.Calls.{thread, leaves, calls}
 use Rattle.target_laws.proofs.Covered.{Covered}
 use Rattle.target_laws.proofs.Exprs.{put, view_in, expr_runs}
 use Rattle.target_laws.proofs.Halts.{run_of}
-use Rattle.target_laws.proofs.Instructions.{on_and, gives_on, ignored_on, given_kept, location_of, held, Tells, Turning, goes_on, branches, change_ends, dest_stores, pushed_ends, lock_ends, join_ends, spawn_ends, print_ends, flags}
+use Rattle.target_laws.proofs.Instructions.{on_and, gives_on, given_kept, location_of, held, Tells, Turning, branches, change_ends, dest_stores, pushed_ends, lock_ends, join_ends, spawn_ends, print_ends, flags}
 use Rattle.target_laws.proofs.Lengths.{expr_length, args_length}
 use Rattle.target_laws.proofs.Places.{Shaped}
 use Rattle.target_laws.proofs.Turned.{Threads, holds_first, Leading, Ends, ends_step, ends_value, ends_values, args_run}

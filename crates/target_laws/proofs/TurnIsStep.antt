@@ -1,28 +1,24 @@
 -- A turn of a thread that runs makes its step.
-use Rattle.std.proofs.Common.{◌≡◌, ◌≢◌, ◌⊎◌, inl, inr, ℕ, ◌+◌, ◌<◌, Bool, true, false, List, [], ◌∷◌, length, reverse, Option, Some, None, refl, sym, ap, ◌∙◌, subst, arith, lt-ltb}
-use Rattle.std.specs.Prelude.{All, MatchOption, ⊤, slice_get, if◌then◌else◌, nat_lt}
+use Rattle.std.proofs.Common.{◌≡◌, ◌≢◌, inl, inr, ℕ, ◌+◌, Bool, true, false, List, ◌∷◌, length, reverse, Some, refl, sym, ap, ◌∙◌, subst, arith, lt-ltb}
+use Rattle.std.specs.Prelude.{slice_get, if◌then◌else◌}
 use Rattle.std.specs.Option.{option_and_then, option_map}
 use Rattle.std.proofs.lemmas.List.{length-reverse}
 use Rattle.c_tree.specs.declared.event.EventKind.TheVariants as e
 use Rattle.c_tree.specs.declared.lifted.Lifted.{Lifted}
 use Rattle.c_tree.specs.declared.lifted.LExpr.{LExpr}
-use Rattle.c_tree.specs.declared.lifted.LStmt.TheVariants as s
-use Rattle.c_tree.specs.declared.place.Act.TheVariants.{Do}
 use Rattle.c_tree.specs.declared.place.Place.{Place}
 use Rattle.c_tree.specs.declared.run.Settings.{Settings}
 use Rattle.c_tree.specs.declared.state.Frame.{Frame}
-use Rattle.c_tree.specs.declared.state.State.{State}
 use Rattle.c_tree.specs.Layout.{place_at}
 use Rattle.c_tree.specs.Step.{Outcome, function_of, frames_at, frames_in, top_of, at_frame, is_live, acting, acted, step}
 use Rattle.c_tree.specs.Step as source
 use Rattle.state_laws.proofs.Places.{where_is}
 use Rattle.state_laws.proofs.Zips.{all_at}
-use Rattle.store_mem.specs.Memory.{Memory, field_counts}
-use Rattle.target_code.specs.declared.activation.Mode.{Mode}
+use Rattle.store_mem.specs.Memory.{Memory}
 use Rattle.target_code.specs.declared.activation.Mode.TheVariants.{Running, Saved}
 use Rattle.target_code.specs.declared.code.CodeFunction.{CodeFunction}
-use Rattle.target_code.specs.Between.{FitsFunction, Stands, Wait, frames, running, IsRunning, IsSaved, IsAtRest, IsBetween}
-use Rattle.target_code.specs.Code.{TargetCode, code_of, marks}
+use Rattle.target_code.specs.Between.{Stands, frames, running, IsRunning, IsAtRest, IsBetween}
+use Rattle.target_code.specs.Code.{code_of, marks}
 use Rattle.target_code.specs.Machine.{Setting, Machine, Ran, Stopped, Trapped, Ended, Finished, Unwound, Unfinished, Stuck, function_in, machine_of, turn}
 use Rattle.target_code.specs.Machine as machine
 use Rattle.target_code.specs.Seen.{seen}
@@ -30,11 +26,10 @@ use Rattle.target_code.specs.Target.{Target}
 use Rattle.target_code.specs.TargetRun.{TargetCore, seen_threads, state_of, live_in, setting_of, after_turn, target_next}
 use Rattle.target_laws.specs.Laws.{left_by, Runs, setting}
 use Rattle.target_laws.specs.Laws as law
-use Rattle.target_laws.proofs.AfterTurns.{Leads, leads}
+use Rattle.target_laws.proofs.AfterTurns.{leads}
 use Rattle.target_laws.proofs.Calls.{thread}
 use Rattle.target_laws.proofs.Covered.{covered_at}
 use Rattle.target_laws.proofs.Frames.{top_reverse}
-use Rattle.target_laws.proofs.Halts.{run_of}
 use Rattle.target_laws.proofs.Instructions.{Tells, Turning}
 use Rattle.target_laws.proofs.Marks.{marked_long, marked_live, marked_count}
 use Rattle.target_laws.proofs.Places.{Here, here, code_at, place_within}

@@ -1,5 +1,5 @@
 -- When the end of a turn is that of a step, and how a turn comes to the next mark.
-use Rattle.std.proofs.Common.{◌≡◌, ◌⊎◌, inl, inr, ℕ, zero, suc, ◌+◌, ◌-◌, ◌<◌, ◌≤◌, ℤ, pos, false, List, [], ◌∷◌, ◌++◌, length, reverse, replicate, Option, Some, None, Result, Ok, Err, refl, sym, ap, ◌∙◌, subst, arith, length-append}
+use Rattle.std.proofs.Common.{◌≡◌, ◌⊎◌, inl, ℕ, zero, suc, ◌+◌, ◌-◌, ◌<◌, ◌≤◌, ℤ, pos, false, List, [], ◌∷◌, ◌++◌, length, reverse, replicate, Option, Some, None, Result, Ok, Err, refl, sym, ap, ◌∙◌, subst, arith, length-append}
 use Rattle.std.specs.Prelude.{slice_get, slice_set}
 use Rattle.std.proofs.lemmas.List.{length-set, length-replicate}
 use mathlib.Core.List.{reverse_aux}
@@ -15,19 +15,17 @@ use Rattle.c_tree.specs.Step as step
 use Rattle.c_tree.specs.Value.{and_then, value}
 use Rattle.store_mem.specs.Laws.{with_threads}
 use Rattle.store_mem.specs.Memory.{Memory}
-use Rattle.target_code.specs.declared.code.CodeFunction.{CodeFunction}
 use Rattle.target_code.specs.declared.instr.Instr.{Instr}
 use Rattle.target_code.specs.declared.instr.Instr.TheVariants as i
 use Rattle.target_code.specs.Between.{body_at, Path, Reaches, FitsFunction, Stands, Wait, AllWait, frames}
-use Rattle.target_code.specs.Code.{code_of, marks}
-use Rattle.target_code.specs.Machine.{Setting, Machine, Ran, Stopped, Trapped, Ended, Finished, Blocked, Did, Goes, Over, act, function_in, go}
+use Rattle.target_code.specs.Code.{marks}
+use Rattle.target_code.specs.Machine.{Setting, Machine, Ran, Stopped, Trapped, Ended, Finished, Blocked, Goes, Over, act, function_in, go}
 use Rattle.target_code.specs.Operands.{size, sizes, expr_code, args_code}
 use Rattle.target_laws.specs.Laws.{setting}
 use Rattle.target_laws.proofs.Blocks.{HasAt, has_front, has_back}
 use Rattle.target_laws.proofs.Exprs.{put, view_in, Comes, Fails, Gives, comes_on, fails_on, expr_runs}
 use Rattle.target_laws.proofs.Halts.{Halts, halts_step, halts_at, run_of}
 use Rattle.target_laws.proofs.Lengths.{expr_length}
-use Rattle.target_laws.proofs.Places.{mark_here, code_at}
 use Rattle.target_laws.proofs.SeenFrames.{mark_in}
 
 -- the frames of the threads of a state

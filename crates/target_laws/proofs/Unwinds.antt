@@ -1,11 +1,11 @@
 -- An unwinding saves the frames for which the thread stands.
-use Rattle.std.proofs.Common.{◌≡◌, ⊎_elim, ℕ, ◌+◌, ℤ, Bool, true, false, List, [], ◌∷◌, reverse, Option, Some, refl, sym, subst, ap, ◌∙◌}
+use Rattle.std.proofs.Common.{◌≡◌, ⊎_elim, ℕ, ◌+◌, ℤ, true, false, List, [], ◌∷◌, reverse, Some, refl, sym, subst, ap, ◌∙◌}
 use Rattle.std.specs.Prelude.{slice_get}
 use mathlib.Core.List.{reverse_aux}
 use Rattle.c_tree.specs.declared.lifted.LStmt.TheVariants as s
 use Rattle.c_tree.specs.declared.lifted.Lifted.{Lifted}
 use Rattle.c_tree.specs.declared.place.Act.{Act}
-use Rattle.c_tree.specs.declared.place.Act.TheVariants.{Enter, Do, Test, EndLoop, Finish}
+use Rattle.c_tree.specs.declared.place.Act.TheVariants.{Enter, Do, EndLoop}
 use Rattle.c_tree.specs.declared.state.Frame.{Frame}
 use Rattle.c_tree.specs.Able.{is_update_place}
 use Rattle.c_tree.specs.Layout.{place_at}
@@ -18,7 +18,7 @@ use Rattle.target_code.specs.declared.activation.Mode.TheVariants.{Unwinding}
 use Rattle.target_code.specs.declared.code.CodeFunction.{CodeFunction}
 use Rattle.target_code.specs.declared.instr.Instr.{Instr}
 use Rattle.target_code.specs.declared.instr.Instr.TheVariants as i
-use Rattle.target_code.specs.Between.{body_at, Stands, Wait, Waits, AllWait, acts, frames}
+use Rattle.target_code.specs.Between.{body_at, Stands, Wait, Waits, AllWait, frames}
 use Rattle.target_code.specs.Code.{body_of, act_code, code_of}
 use Rattle.target_code.specs.Machine.{Setting, Machine, Ran, Unwound, turn, machine_of}
 use Rattle.target_laws.specs.Laws.{setting}

@@ -1,5 +1,5 @@
 -- The state after an update: as many threads, those that have ended as before, and the same input and output.
-use Rattle.std.proofs.Common.{◌≡◌, ℕ, suc, ◌+◌, ◌<◌, List, [], ◌∷◌, length, Option, Some, None, Result, Ok, Err, refl, sym, ap, subst, arith}
+use Rattle.std.proofs.Common.{◌≡◌, ℕ, ◌+◌, ◌<◌, List, [], ◌∷◌, length, Option, Some, None, Result, Ok, Err, refl, subst}
 use Rattle.std.specs.Prelude.{⊤}
 use Rattle.c_tree.specs.declared.event.Reason.{Reason}
 use Rattle.c_tree.specs.declared.event.ThreadMark.{ThreadMark}
@@ -14,7 +14,7 @@ use Rattle.c_tree.specs.MapHeap.{map_objects}
 use Rattle.c_tree.specs.MapMutexes.{new_owners}
 use Rattle.c_tree.specs.MapStack.{map_frames}
 use Rattle.c_tree.specs.Refusal.{onward, unless_refused}
-use Rattle.c_tree.specs.Update.{map_thread, map_threads, mapped_state, refusal, update}
+use Rattle.c_tree.specs.Update.{map_threads, mapped_state, refusal, update}
 use Rattle.store_mem.specs.Memory.{IsMarkOf, Marked}
 use Rattle.target_laws.proofs.Turned.{Threads}
 

@@ -1,14 +1,12 @@
 -- An update of the core leads to the core of the updated state.
-use Rattle.std.proofs.Common.{◌≡◌, inl, inr, ℕ, zero, suc, ◌+◌, ◌<◌, Bool, true, false, List, [], ◌∷◌, length, map, Option, Some, None, Result, Ok, Err, refl, sym, ap, ◌∙◌, subst, arith}
-use Rattle.std.specs.Prelude.{All, MatchOption, ⊤, slice_get}
-use Rattle.std.specs.Option.{option_and_then, option_map}
+use Rattle.std.proofs.Common.{◌≡◌, inl, inr, ℕ, zero, suc, true, List, [], ◌∷◌, Option, Some, None, Ok, refl, sym, ap, ◌∙◌, subst, arith}
+use Rattle.std.specs.Prelude.{All, ⊤, slice_get}
+use Rattle.std.specs.Option.{option_and_then}
 use Rattle.std.proofs.lemmas.List.Elements.{All-nil, All-cons, All-tail}
 use Rattle.c_tree.specs.declared.event.EventKind.TheVariants as e
-use Rattle.c_tree.specs.declared.event.Reason.{Reason}
 use Rattle.c_tree.specs.declared.lifted.Lifted.{Lifted}
 use Rattle.c_tree.specs.declared.run.Armed.{Armed}
 use Rattle.c_tree.specs.declared.run.Settings.{Settings}
-use Rattle.c_tree.specs.declared.state.Frame.{Frame}
 use Rattle.c_tree.specs.declared.state.State.{State}
 use Rattle.c_tree.specs.Formed.{IsFormed}
 use Rattle.c_tree.specs.Update.{update}
@@ -16,9 +14,9 @@ use Rattle.store_mem.specs.Access.{put_in}
 use Rattle.store_mem.specs.Memory.{Marked, field_counts}
 use Rattle.target_code.specs.declared.activation.Mode.{Mode}
 use Rattle.target_code.specs.declared.activation.Mode.TheVariants.{Running, Saved}
-use Rattle.target_code.specs.Between.{IsRunning, IsSaved, IsAtRest, IsBetween}
+use Rattle.target_code.specs.Between.{IsSaved, IsAtRest, IsBetween}
 use Rattle.target_code.specs.Code.{TargetCode, code_of}
-use Rattle.target_code.specs.Seen.{seen, seen_in}
+use Rattle.target_code.specs.Seen.{seen_in}
 use Rattle.target_code.specs.Target.{Target}
 use Rattle.target_code.specs.TargetRun.{TargetCore, seen_threads, state_of, with_saved, after_update, updated_by, target_next}
 use Rattle.target_laws.proofs.SavedThreads.{Rests, saved_at}
