@@ -1,6 +1,9 @@
-//! The memory of a program as it starts, its objects, and what it prints.
+//! The memory of a program as it starts, its objects, its threads, and what it prints.
+
+mod threads;
 
 use crate::programs::program_of;
+use crate::store_mem_rows::threads::put_threads;
 use c_tree::{Lifted, Text, Trap};
 use row_calls::{RowsDiffer, compare, judged};
 use std::alloc::{AllocError, Global};
@@ -21,29 +24,20 @@ g 7, a[2] 0, no owner, 0 objects
 bytes 65 -1
 object 1 of 1 with 0 0, 1 objects
 output one two
+threads live
+made 1 2: live, 3 with 7, 0 with -1
+forgotten: live, 3 with 7
+begun: live, live
+ended: live, ended
+65 made with 64 live, 1000 made in all
 ";
-
-fn read_or(value: Result<i32, Trap>) -> i32 {
-    value.unwrap_or(-99)
-}
-
-fn put_start(text: &mut String, store: &Store) -> Result<(), AllocError> {
-    let (g, a) = (read_or(store.read(0, 0)), read_or(store.read(1, 2)));
-    let owner = if store.mutex_owner(0).is_none() {
-        "no owner"
-    } else {
-        "an owner"
-    };
-    let objects = store.objects();
-    write!(text, "g {g}, a[2] {a}, {owner}, {objects} objects\n")
-}
 
 fn put_object(text: &mut String, store: &mut Store) -> Result<(), StoreEnd> {
     let object = store.new_object(1)?;
     let owner = store.object_owner(object).unwrap_or(99);
     let (f, g) = (
-        read_or(store.field(object, 1, 0)),
-        read_or(store.field(object, 1, 1)),
+        store.field(object, 1, 0).unwrap_or(-99),
+        store.field(object, 1, 1).unwrap_or(-99),
     );
     let objects = store.objects();
     write!(
@@ -59,10 +53,21 @@ fn put_object(text: &mut String, store: &mut Store) -> Result<(), StoreEnd> {
 
 fn told(alloc: Global, store: &mut Store) -> Result<String, StoreEnd> {
     let mut text = String::new(alloc);
-    put_start(&mut text, store)?;
+    let (g, a) = (
+        store.read(0, 0).unwrap_or(-99),
+        store.read(1, 2).unwrap_or(-99),
+    );
+    let owner = if store.mutex_owner(0).is_none() {
+        "no owner"
+    } else {
+        "an owner"
+    };
+    let objects = store.objects();
+    write!(text, "g {g}, a[2] {a}, {owner}, {objects} objects\n")?;
     let (first, second) = (store.get_byte(), store.get_byte());
     write!(text, "bytes {first} {second}\n")?;
     put_object(&mut text, store)?;
+    put_threads(&mut text, store)?;
     Ok(text)
 }
 
@@ -86,11 +91,6 @@ fn put_printed(differing: &mut String, alloc: Global) -> Result<(), AllocError> 
     compare(differing, "two numbers", "-2147483648 of 0", text)
 }
 
-/// Whether a store has no room for another object.
-fn is_full(store: &mut Store) -> bool {
-    matches!(store.new_object(1), Err(StoreEnd::Trap(Trap::Objects)))
-}
-
 fn put_store(differing: &mut String, alloc: Global, program: &Lifted) -> Result<(), AllocError> {
     let input = Text::from_vec(b"A".to_vec(alloc)?);
     let mut store = Store::start(alloc, program, input)?;
@@ -99,7 +99,8 @@ fn put_store(differing: &mut String, alloc: Global, program: &Lifted) -> Result<
         Err(_) => differing.push_str("a call fails")?,
     }
     let made = objects_made(&mut store);
-    if made != 1_000_000 || !is_full(&mut store) {
+    let is_full = matches!(store.new_object(1), Err(StoreEnd::Trap(Trap::Objects)));
+    if made != 1_000_000 || !is_full {
         differing.push_str("there is room for other than 1,000,000 objects")?;
     }
     Ok(())

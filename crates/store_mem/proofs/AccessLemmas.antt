@@ -14,7 +14,7 @@ use Rattle.c_tree.specs.Value.{and_then, element, object, object_of}
 use Rattle.c_tree.specs.Step as step
 use Rattle.c_tree.specs.Limits.{max_objects, max_output}
 use Rattle.c_tree.specs.Step.{Acting, Outcome, Trapped, Blocked, on, goes, top, set_slot, field_count}
-use Rattle.store_mem.specs.Access.{values_of, written, field_written, made, freed, locked, locked_from, unlocked, unlocked_from, got, got_from, put, holder_of}
+use Rattle.store_mem.specs.Access.{values_of, written, set_scalar, field_written, made, freed, locked, locked_from, unlocked, unlocked_from, got, got_from, put, holder_of}
 use Rattle.store_mem.specs.Laws as law
 use Rattle.store_mem.specs.Laws.{with_threads}
 use Rattle.store_mem.specs.Memory.{field_counts}
@@ -32,7 +32,7 @@ on_same : {A : Type 0} (r : Result A Trap) (g h : A → Outcome) → ((a : A) �
 on_same (Ok a) g h e = e a
 on_same (Err c) g h e = refl
 
-on_if : {A : Type 0} (b : Bool) (x : A) (c : Trap) (go : A → Outcome) → (if b then go x else Trapped c) ≡ on (if b then Ok x else Err c) go
+pub on_if : {A : Type 0} (b : Bool) (x : A) (c : Trap) (go : A → Outcome) → (if b then go x else Trapped c) ≡ on (if b then Ok x else Err c) go
 on_if true x c go = refl
 on_if false x c go = refl
 
@@ -60,6 +60,9 @@ stores-element st g at f v = then_ok (element (values_of st g) at) _ _
 
 pub stores-first : law.StoresFirst
 stores-first st g h f v = ap (λ r. and_then (and_then r (λ _. Ok (step.set_global st g 0 v))) (λ next. let out : Result (State × Frame) Trap = Ok (next, f) in out)) (sym (first (values_of st g) h))
+
+pub sets-scalar : law.SetsScalar
+sets-scalar st g f v = refl
 
 pub stores-field : law.StoresField
 stores-field st o owner field f v = then_ok (object_of st.heap.objects o owner) _ _
@@ -110,6 +113,9 @@ unlocks-mutex w n m = unlocked_step w n m (holder_of w.state m)
 -- threads play no part
 pub written-threads : (g : ℕ) (at v : ℤ) → law.IgnoresThreads (λ s. written s g at v)
 written-threads g at v ts st = then_ok (element (values_of st g) at) _ _
+
+pub set_scalar-threads : (g : ℕ) (v : ℤ) → law.IgnoresThreads (λ s. Ok (set_scalar s g v))
+set_scalar-threads g v ts st = refl
 
 pub field_written-threads : (o : ℤ) (owner field : ℕ) (v : ℤ) → law.IgnoresThreads (λ s. field_written s o owner field v)
 field_written-threads o owner field v ts st = then_ok (object_of st.heap.objects o owner) _ _

@@ -1,1 +1,3 @@
 pub mod AccessLemmas
+pub mod KeepLemmas
+pub mod MarkLemmas

@@ -1,5 +1,7 @@
--- That these accesses are those of a step, and that threads play no part in them.
-use Rattle.std.specs.Prelude.{◌≡◌, ℕ, ◌<◌, ℤ, pos, if◌then◌else◌, List, length, Option, Result, Ok}
+-- That these accesses are those of a step, that threads play no part in them, and that the marks tell of the threads
+-- what a step asks of them.
+use Rattle.std.specs.Prelude.{◌≡◌, ℕ, ◌<◌, ℤ, pos, IsTrue, if◌then◌else◌, List, [], ◌∷◌, length, slice_set, Option, None, Result, Ok}
+use Rattle.c_tree.specs.declared.event.ThreadMark.{ThreadMark}
 use Rattle.c_tree.specs.declared.lifted.LExpr.{LExpr}
 use Rattle.c_tree.specs.declared.lifted.LExpr.TheVariants as e
 use Rattle.c_tree.specs.declared.lifted.LStmt.TheVariants as s
@@ -9,9 +11,10 @@ use Rattle.c_tree.specs.declared.state.Frame.{Frame}
 use Rattle.c_tree.specs.declared.state.State.{State}
 use Rattle.c_tree.specs.declared.state.Trap.{Trap}
 use Rattle.c_tree.specs.Value.{and_then, element, value}
-use Rattle.c_tree.specs.Step.{Acting, Blocked, on, done, goes, printed, view_of, set_slot, stored, top, value_in, values_in}
-use Rattle.store_mem.specs.Access.{values_of, written, field_written, made, freed, locked, unlocked, got, put}
-use Rattle.store_mem.specs.Memory.{field_counts}
+use Rattle.c_tree.specs.Step as step
+use Rattle.c_tree.specs.Step.{Acting, Blocked, on, done, goes, printed, view_of, set_slot, stored, top, value_in, values_in, store, fresh, with_thread, is_live, live_count}
+use Rattle.store_mem.specs.Access.{values_of, written, set_scalar, field_written, made, freed, locked, unlocked, got, put, is_live_in, live_marks, spawned, begun, ended, forgotten}
+use Rattle.store_mem.specs.Memory.{field_counts, Marked}
 
 -- a scalar's value is the first of its values
 abbrev pub ReadsFirst : Type 0
@@ -25,6 +28,10 @@ StoresBy to write st = (f : Frame) (v : ℤ) → stored st f to v ≡ and_then (
 -- a store in a scalar is a write in its one value
 abbrev pub StoresFirst : Type 0
 StoresFirst = (st : State) (g : ℕ) → 0 < length (values_of st g) → StoresBy (InGlobal g) (λ s v. written s g (pos 0) v) st
+
+-- a store in a scalar sets its value
+abbrev pub SetsScalar : Type 0
+SetsScalar = (st : State) (g : ℕ) → StoresBy (InGlobal g) (λ s v. Ok (set_scalar s g v)) st
 
 -- a store in an array is a write in an element
 abbrev pub StoresElement : Type 0
@@ -75,3 +82,41 @@ IgnoresThreads change =
 abbrev pub GivesIgnoringThreads : {A : Type 0} → (State → Result (A × State) Trap) → Type 0
 GivesIgnoringThreads change =
     (threads : List (Option (List Frame))) (st : State) → change (with_threads threads st) ≡ and_then (change st) (λ r. Ok (r.0, with_threads threads r.1))
+
+-- there are as many marks as threads
+abbrev pub CountsThreads : Type 0
+CountsThreads = (marks : List ThreadMark) (st : State) → Marked marks st.threads → length marks ≡ length st.threads
+
+-- as many marks as threads are live
+abbrev pub CountsLive : Type 0
+CountsLive = (marks : List ThreadMark) (st : State) → Marked marks st.threads → live_marks marks ≡ live_count st
+
+-- the marks tell which threads are live
+abbrev pub TellsLive : Type 0
+TellsLive = (marks : List ThreadMark) (st : State) (t : ℕ) → Marked marks st.threads → is_live_in marks t ≡ is_live st t
+
+-- `pthread_create` makes a thread where the marks have room for it, and stores its number
+abbrev pub SpawnsThread : Type 0
+SpawnsThread =
+    (marks : List ThreadMark) (w : Acting) (n : ℕ) (to : Location) (f : ℕ) (v : ℤ) → Marked marks w.state.threads
+    → step.spawned w n to f v ≡ on (spawned marks f v) (λ r. store w n (with_thread w.state (fresh w.program f (v ∷ []) ∷ [])) to (pos r.0))
+
+-- behind a spawn the marks are those of the threads, the new one among them
+abbrev pub SpawnKeepsMarks : Type 0
+SpawnKeepsMarks =
+    (marks : List ThreadMark) (st : State) (f : ℕ) (v : ℤ) (frames : List Frame) (r : ℕ × List ThreadMark)
+    → Marked marks st.threads → 0 < length frames → spawned marks f v ≡ Ok r → Marked r.1 (with_thread st frames).threads
+
+-- a live thread begins
+abbrev pub BeginKeepsMarks : Type 0
+BeginKeepsMarks =
+    (marks : List ThreadMark) (st : State) (t : ℕ) → Marked marks st.threads → IsTrue (is_live_in marks t) → Marked (begun marks t) st.threads
+
+-- a thread ends
+abbrev pub EndKeepsMarks : Type 0
+EndKeepsMarks =
+    (marks : List ThreadMark) (st : State) (t : ℕ) → Marked marks st.threads → Marked (ended marks t) (slice_set st.threads t None)
+
+-- a spawn that is forgotten leaves the marks as they were
+abbrev pub ForgetUndoesSpawn : Type 0
+ForgetUndoesSpawn = (marks : List ThreadMark) (f : ℕ) (v : ℤ) (r : ℕ × List ThreadMark) → spawned marks f v ≡ Ok r → forgotten r.1 ≡ marks

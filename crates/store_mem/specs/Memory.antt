@@ -1,5 +1,6 @@
 -- The memory of a running program as contracts see it.
 use Rattle.std.specs.Prelude.{ℕ, ◌<◌, List, [], ◌∷◌, map, length, Option, Some, None, ⊤}
+use Rattle.std.specs.List.{AllZip}
 use Rattle.c_tree.specs.declared.event.ThreadMark.{ThreadMark}
 use Rattle.c_tree.specs.declared.event.ThreadMark.TheVariants.{Live, Ended, Fresh}
 use Rattle.c_tree.specs.declared.lifted.Lifted.{Lifted}
@@ -33,6 +34,4 @@ IsMarkOf _ _ = ⊥
 
 -- The marks are those of these threads, one by one.
 abbrev pub Marked : List ThreadMark → List (Option (List Frame)) → Type 0
-Marked [] [] = ⊤
-Marked (mark ∷ marks) (thread ∷ threads) = IsMarkOf mark thread × Marked marks threads
-Marked _ _ = ⊥
+Marked marks threads = AllZip IsMarkOf marks threads

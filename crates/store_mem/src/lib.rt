@@ -15,7 +15,10 @@ mod refusal;
 mod store;
 
 pub use heap::object_of;
-pub use laws::{a_step_makes_these_accesses, threads_play_no_part};
+pub use laws::{
+    a_step_makes_these_accesses, marks_follow_the_threads, marks_tell_the_threads,
+    threads_play_no_part,
+};
 pub use print::printed;
 pub use refusal::StoreEnd;
 pub use store::Store;

@@ -1,6 +1,7 @@
 pub mod SizeLemmas
 pub mod CodeLemmas
 pub mod MarkLemmas
+pub mod StackLemmas
 mod Programs
 mod Rows
 mod RowExamples

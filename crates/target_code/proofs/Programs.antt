@@ -181,11 +181,11 @@ array = record {
       main_of (slot (codes "i") ty.Int ∷ [])
       (s.Assign (d.Slot 0) (num 0)
       ∷ s.Loop [] (e.Bin bin.Lt (e.Slot 0) (num 3))
-          (s.If (e.Bin bin.Eq (e.Slot 0) (num 1)) (s.Continue ∷ []) []
-          ∷ s.Assign (d.Elem 0 (e.Slot 0)) (e.Un un.Flip (e.Slot 0))
-          ∷ s.If (e.Bin bin.And (e.Elem 0 (e.Slot 0)) (e.Un un.Not (e.Slot 0))) [] (s.Break ∷ [])
-          ∷ [])
-          (s.Assign (d.Slot 0) (e.Bin bin.Add (e.Slot 0) (num 1)) ∷ [])
+      (s.If (e.Bin bin.Eq (e.Slot 0) (num 1)) (s.Continue ∷ []) []
+      ∷ s.Assign (d.Elem 0 (e.Slot 0)) (e.Un un.Flip (e.Slot 0))
+      ∷ s.If (e.Bin bin.And (e.Elem 0 (e.Slot 0)) (e.Un un.Not (e.Slot 0))) [] (s.Break ∷ [])
+      ∷ [])
+      (s.Assign (d.Slot 0) (e.Bin bin.Add (e.Slot 0) (num 1)) ∷ [])
       ∷ print_of (codes "%d\n") (e.Elem 0 (e.Slot 0))
       ∷ [])
       ∷ [];
@@ -233,3 +233,13 @@ deep more = record {
 
 abbrev pub deep_entries : List LEntry
 deep_entries = m.Point 0 0 (goes 0 0 []) ∷ m.Point 0 3 (goes 0 3 []) ∷ []
+
+-- `pthread_t a[1]; int main(void) { pthread_create(&a[1], NULL, w, NULL); return 0; }`: there is no place for the thread's number
+abbrev pub no_place : Lifted
+no_place = record {
+  structs = [];
+  globals = record (scalar (codes "a") ty.Thread) { count = Some 1 } ∷ [];
+  mutexes = [];
+  functions = started (codes "w") [] ∷ main_of [] (s.Spawn (d.Elem 0 (num 1)) 0 e.Null ∷ []) ∷ [];
+  main = 1;
+}

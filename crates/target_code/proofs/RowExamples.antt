@@ -5,7 +5,7 @@ use Rattle.c_tree.specs.declared.state.Trap.TheVariants as trap
 use Rattle.c_tree.proofs.RunExamples.{steps}
 use Rattle.c_tree.proofs.UpdateExamples.{counts_old, counts_new, loop_entries, check_entries, counts_with_k, init_entries, nested_old, nested_new, nested_entries}
 use Rattle.target_code.specs.Compute.{target_literals}
-use Rattle.target_code.proofs.Programs.{hello, reads, divides, shifts, forever, asks_old, asks_new, asks_entries, waits_old, waits_new, waits_entries, workers_old, workers_new, workers_entries, items_old, items_new, item_entries, crossed, array, locks_old, locks_new, locks_entries, deep, deep_entries}
+use Rattle.target_code.proofs.Programs.{hello, reads, divides, shifts, forever, asks_old, asks_new, asks_entries, waits_old, waits_new, waits_entries, workers_old, workers_new, workers_entries, items_old, items_new, item_entries, crossed, array, locks_old, locks_new, locks_entries, deep, deep_entries, no_place}
 use Rattle.target_code.proofs.Rows.{alone, armed, events, ends, told, tells, saved, loaded, StandsForTheState}
 
 -- Two instructions for the entry, two for `printf`, three for `return`.
@@ -295,3 +295,17 @@ deep_tells = refl
 pub deep_stands : StandsForTheState (armed (deep 1) (deep 2) deep_entries 8) (events (armed (deep 1) (deep 2) deep_entries 8) 19)
 unfolding target_literals
 deep_stands = refl
+
+-- The number of a new thread has no place: the trap leaves no thread behind.
+
+pub no_place_ends : ends (alone no_place) 2 ≡ Some (end.Trapped 0 trap.Bounds)
+unfolding target_literals
+no_place_ends = refl
+
+pub no_place_tells : told (alone no_place) (events (alone no_place) 2) ≡ tells 7 [] []
+unfolding target_literals
+no_place_tells = refl
+
+pub no_place_stands : StandsForTheState (alone no_place) (events (alone no_place) 2)
+unfolding target_literals
+no_place_stands = refl

@@ -5,6 +5,7 @@ use Rattle.c_tree.specs.declared.lifted.LStmt.TheVariants as s
 use Rattle.c_tree.specs.declared.lifted.Lifted.{Lifted}
 use Rattle.c_tree.specs.declared.place.Act.TheVariants.{Do}
 use Rattle.c_tree.specs.declared.place.Follow.TheVariants.{One}
+use Rattle.c_tree.specs.declared.place.Place.{Place}
 use Rattle.c_tree.specs.declared.state.Frame.{Frame}
 use Rattle.c_tree.specs.Formed.{IsFormed}
 use Rattle.c_tree.specs.Layout.{place, place_at}
@@ -23,6 +24,14 @@ use Rattle.target_code.specs.TargetRun.{TargetCore, seen_threads}
 abbrev pub body_at : Lifted → ℕ → List Instr
 body_at p f = (function_in (code_of p) f).body
 
+-- the positions of the marks of a function of a program
+abbrev pub marks_at : Lifted → ℕ → List ℕ
+marks_at p f = marks (function_of p f)
+
+-- the place at which a frame is
+abbrev pub place_of : Lifted → Frame → Place
+place_of p f = place_at (function_of p f.function) f.place
+
 -- k jumps lead from a position to the mark of place n
 abbrev pub Path : List Instr → List ℕ → ℕ → ℕ → ℕ → Type 0
 Path body ms zero at n = slice_get ms n ≡ Some at
@@ -40,25 +49,26 @@ pub record FitsFunction (p : Lifted) (f : Frame) : Type 0 where
 -- an activation at a position stands for a frame: it is at the mark of the frame's place
 pub record Stands (p : Lifted) (f : Frame) (pc : ℕ) : Type 0 where
   pub fits : FitsFunction p f
-  pub mark : slice_get (marks (function_of p f.function)) f.place ≡ Some pc
+  pub mark : slice_get (marks_at p f.function) f.place ≡ Some pc
 
 -- a frame that waits for its callee, and the position of its activation
 pub record Wait : Type 0 where
   pub frame : Frame
   pub pc : ℕ
 
--- an activation waits for a frame: the frame's place is a call, and the activation is at the `after` of that call, or,
--- since a rebuilding, at a jump there; behind it jumps lead to the place that follows the call
+-- an activation waits for a frame: the frame's place is a call, and the activation is at the
+-- `after` of that call, or, since a rebuilding, at a jump there; behind it jumps lead to the place
+-- that follows the call
 pub record Waits (p : Lifted) (x : Wait) : Type 0 where
   pub fits : FitsFunction p x.frame
   pub to : Option ℕ
   pub callee : ℕ
   pub args : List LExpr
   pub next : ℕ
-  pub call : place_at (function_of p x.frame.function) x.frame.place ≡ place (Do (s.Call to callee args)) (One next)
+  pub call : place_of p x.frame ≡ place (Do (s.Call to callee args)) (One next)
   pub after : ℕ
   pub has : slice_get (body_at p x.frame.function) after ≡ Some (i.After x.frame.place to)
-  pub leads : Reaches (body_at p x.frame.function) (marks (function_of p x.frame.function)) (after + 1) next
+  pub leads : Reaches (body_at p x.frame.function) (marks_at p x.frame.function) (after + 1) next
   pub at : (x.pc ≡ after) ⊎ (slice_get (body_at p x.frame.function) x.pc ≡ Some (i.Jump after))
 
 -- each of these frames waits
@@ -113,8 +123,8 @@ pub record IsBetweenTurns (code : TargetCode) (x : Target) : Type 0 where
   pub coded : IsCode code
   pub runs : IsRunning coded.program x
 
--- between two events the code and the numbers of fields are those of the formed program p, the memory has no threads but
--- a mark for each, and each thread that hasn't ended runs or is saved
+-- between two events the code and the numbers of fields are those of the formed program p, the
+-- memory has no threads but a mark for each, and each thread that hasn't ended runs or is saved
 pub record IsBetween (p : Lifted) (c : TargetCore) : Type 0 where
   pub formed : IsFormed p
   pub code : c.code ≡ code_of p

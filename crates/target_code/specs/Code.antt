@@ -1,4 +1,5 @@
--- The code of a program: of each function its instructions, the position of each place's mark, and its calls.
+-- The code of a program: of each function its instructions, the position of each place's mark, and
+-- its calls.
 use Rattle.std.specs.Prelude.{◌≡◌, ℕ, ◌+◌, pos, List, [], ◌∷◌, ◌++◌, length, take, replicate, Some, None}
 use Rattle.c_tree.specs.declared.lifted.LFunction.{LFunction}
 use Rattle.c_tree.specs.declared.lifted.LStmt.{LStmt, Row_of-LStmt, end_of-LStmt, more_of-LStmt}
@@ -21,13 +22,15 @@ use Rattle.target_code.specs.Operands.{size, sizes, expr_code, args_code, dest_s
 -- the instructions of a simple statement of place n, behind its mark;
 -- the function t gives the number of the text that is printed at a place
 abbrev pub do_code : (ℕ → ℕ) → ℕ → ℕ → LStmt → List Instr
-do_code t at n (s.Assign to e) = dest_code at to ++ (expr_code (at + dest_size to) e ++ store_instr to ∷ [])
+do_code t at n (s.Assign to e) =
+    dest_code at to ++ (expr_code (at + dest_size to) e ++ store_instr to ∷ [])
 do_code t at n (s.New slot owner) = i.New owner ∷ i.Set slot ∷ []
 do_code t at n (s.Getc slot) = i.Getc ∷ i.Set slot ∷ []
 do_code t at n (s.Print text args) = args_code at args ++ i.Print (t n) ∷ []
 do_code t at n (s.Free e) = expr_code at e ++ i.Free ∷ []
 do_code t at n (s.Call to f args) = args_code at args ++ i.Call f ∷ i.After n to ∷ []
-do_code t at n (s.Spawn to f e) = dest_code at to ++ (expr_code (at + dest_size to) e ++ i.Spawn f ∷ store_instr to ∷ [])
+do_code t at n (s.Spawn to f e) =
+    dest_code at to ++ (expr_code (at + dest_size to) e ++ i.Spawn f ∷ store_instr to ∷ [])
 do_code t at n (s.Join e) = i.Flag n ∷ (expr_code (at + 1) e ++ i.Join ∷ [])
 do_code t at n (s.Lock m) = i.Flag n ∷ i.Lock m ∷ []
 do_code t at n (s.Unlock m) = i.Unlock m ∷ []
@@ -91,7 +94,8 @@ unfoldable mutual
   rows_size end_of-LStmt = 0
   rows_size (more_of-LStmt x rest) = stmt_size x + rows_size rest
 
--- the instructions of a statement at a position, whose first place is n; the exits are positions here
+-- the instructions of a statement at a position, whose first place is n; the exits are positions
+-- here
 unfoldable mutual
   pub stmt_code : (ℕ → ℕ) → Exits → ℕ → ℕ → LStmt → List Instr
   stmt_code t x at n (s.If' e ka a kb b) =
@@ -99,7 +103,8 @@ unfoldable mutual
       let no = yes + rows_size a + over b in
       act_code t at n (Test e)
       ++ (i.Jz no
-      ∷ (rows_code t x yes (n + 1) a ++ (jump_over b (no + rows_size b) ++ rows_code t x no (n + 1 + counts a) b)))
+      ∷ (rows_code t x yes (n + 1) a
+      ++ (jump_over b (no + rows_size b) ++ rows_code t x no (n + 1 + counts a) b)))
   stmt_code t x at n (s.Loop' kc c e kb b kd d) =
       let test = at + rows_size c in
       let body = test + act_size (Test e) + 1 in
@@ -118,7 +123,8 @@ unfoldable mutual
 
   pub rows_code : (ℕ → ℕ) → Exits → ℕ → ℕ → {m : _} → Row_of-LStmt m → List Instr
   rows_code t x at n end_of-LStmt = []
-  rows_code t x at n (more_of-LStmt y rest) = stmt_code t x at n y ++ rows_code t x (at + stmt_size y) (n + count y) rest
+  rows_code t x at n (more_of-LStmt y rest) =
+      stmt_code t x at n y ++ rows_code t x (at + stmt_size y) (n + count y) rest
 
 -- the position of the mark of each place of a statement at a position
 unfoldable mutual
@@ -130,7 +136,8 @@ unfoldable mutual
       let test = at + rows_size c in
       let body = test + act_size (Test e) + 1 in
       let step = body + rows_size b in
-      rows_marks at c ++ (test ∷ (rows_marks body b ++ (rows_marks step d ++ (step + rows_size d) ∷ [])))
+      rows_marks at c
+      ++ (test ∷ (rows_marks body b ++ (rows_marks step d ++ (step + rows_size d) ∷ [])))
   stmt_marks at s.Break = []
   stmt_marks at s.Continue = []
   stmt_marks at simple = at ∷ []
@@ -169,7 +176,8 @@ marks f = 1 ∷ (block_marks 3 f.body ++ last_of f ∷ [])
 
 -- the rebuilding part of a call: the callee's zeros, the call, the jump to the call's `after`
 abbrev pub part : Lifted → ℕ → ℕ → List Instr
-part p g after = replicate (function_of p g).params (i.Const (pos 0)) ++ i.Call g ∷ i.Jump after ∷ []
+part p g after =
+    replicate (function_of p g).params (i.Const (pos 0)) ++ i.Call g ∷ i.Jump after ∷ []
 
 -- how many instructions a rebuilding part has
 abbrev pub part_size : Lifted → ℕ → ℕ
@@ -183,7 +191,8 @@ pub record Called : Type 0 where
 
 -- the call at place n, whose mark is at a position, where it is one
 abbrev pub called_at : ℕ → ℕ → Act → List Called
-called_at n mark (Do (s.Call to g args)) = record { place = n; callee = g; after = mark + 1 + sizes args + 1 } ∷ []
+called_at n mark (Do (s.Call to g args)) =
+    record { place = n; callee = g; after = mark + 1 + sizes args + 1 } ∷ []
 called_at n mark _ = []
 
 -- the calls among places from n on with these marks
@@ -204,7 +213,9 @@ parts p (c ∷ rest) = part p c.callee c.after ++ parts p rest
 -- where the calls' rebuilding parts stand, of which the first is at a position
 abbrev pub spots : Lifted → ℕ → List Called → List CallSpot
 spots p at [] = []
-spots p at (c ∷ rest) = record { place = c.place; after = c.after; rebuild = at } ∷ spots p (at + part_size p c.callee) rest
+spots p at (c ∷ rest) =
+    record { place = c.place; after = c.after; rebuild = at }
+    ∷ spots p (at + part_size p c.callee) rest
 
 -- where `break` and `continue` would go outside of loops; no formed program has one there
 abbrev pub outside : LFunction → Exits
@@ -225,16 +236,19 @@ abbrev pub texts_of : List LFunction → List (List ℕ)
 texts_of [] = []
 texts_of (f ∷ rest) = texts_in (places f) ++ texts_of rest
 
--- the number of the text that is printed at place n, where `from` texts are those of earlier functions
+-- the number of the text that is printed at place n, where `from` texts are those of earlier
+-- functions
 abbrev pub text_number : LFunction → ℕ → ℕ → ℕ
 text_number f from n = from + length (texts_in (take n (places f)))
 
--- all instructions of a function: `restore`, the entry's place, the statements, the implied return, the rebuilding parts
+-- all instructions of a function: `restore`, the entry's place, the statements, the implied
+-- return, the rebuilding parts
 abbrev pub body_of : Lifted → (ℕ → ℕ) → LFunction → List Instr
 body_of p t f =
     i.Restore
     ∷ (act_code t 1 0 Enter
-    ++ (block_code t (outside f) 3 1 f.body ++ (act_code t (last_of f) (1 + size_of f.body) Finish ++ parts p (calls_of f))))
+    ++ (block_code t (outside f) 3 1 f.body
+    ++ (act_code t (last_of f) (1 + size_of f.body) Finish ++ parts p (calls_of f))))
 
 -- the code of a function, where t gives the numbers of its texts
 abbrev pub function_code : Lifted → (ℕ → ℕ) → LFunction → CodeFunction
@@ -250,7 +264,8 @@ function_code p t f = record {
 abbrev pub functions_code : Lifted → ℕ → List LFunction → List CodeFunction
 functions_code p from [] = []
 functions_code p from (f ∷ rest) =
-    function_code p (text_number f from) f ∷ functions_code p (from + length (texts_in (places f))) rest
+    function_code p (text_number f from) f
+    ∷ functions_code p (from + length (texts_in (places f))) rest
 
 -- a code as contracts see it: the functions, and the texts that they print
 pub record TargetCode : Type 0 where

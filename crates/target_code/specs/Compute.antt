@@ -1,4 +1,5 @@
--- What unfolds where codes of literal programs, and their runs, are computed: `unfolding target_literals`.
+-- What unfolds where codes of literal programs, and their runs, are computed: `unfolding
+-- target_literals`.
 unfoldable pub target_literals : Unit {0}
 unfolding
     Rattle.c_tree.specs.Compute.literals

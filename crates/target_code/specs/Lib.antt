@@ -8,5 +8,7 @@ pub mod Seen
 -- its run over events, and what is true between two of them
 pub mod TargetRun
 pub mod Between
+-- what the contracts of stacks rest on
+pub mod Stack
 -- what unfolds where examples are computed
 pub mod Compute

@@ -29,8 +29,9 @@ pub record Setting : Type 0 where
   pub number : ℕ
   pub flag : Bool
 
--- a thread in the midst of its instructions, and the memory: its innermost activation (function, position, slots),
--- the others below it, innermost first, its operands, top first, and what else it keeps
+-- a thread in the midst of its instructions, and the memory: its innermost activation (function,
+-- position, slots), the others below it, innermost first, its operands, top first, and what else
+-- it keeps
 pub record Machine : Type 0 where
   pub mode : Mode
   pub function : ℕ
@@ -43,9 +44,10 @@ pub record Machine : Type 0 where
   pub memory : Memory
   pub count : ℕ
 
--- how a run ends, with the count behind it: before a mark, in a trap, with the thread's end, with the program's end
--- and its status, with all frames saved. Or the thread has to wait; or the run is longer than was allowed;
--- or there is no instruction, operand or saved frame, which the code of a formed program never comes to
+-- how a run ends, with the count behind it: before a mark, in a trap, with the thread's end, with
+-- the program's end and its status, with all frames saved. Or the thread has to wait; or the run
+-- is longer than was allowed; or there is no instruction, operand or saved frame, which the code
+-- of a formed program never comes to
 pub data Ran : Type 0 where
   Stopped : Machine → Ran
   Trapped : Trap → ℕ → Ran
@@ -94,13 +96,15 @@ leaves st ops m = Goes (record (with_operands m ops) { memory = record m.memory 
 -- the innermost activation is dropped; without another one the run ends so
 abbrev pub dropped : List Activation → Machine → Ran → Did
 dropped [] m last = Over last
-dropped (a ∷ rest) m last = Goes (record m { function = a.function; pc = a.pc; slots = a.slots; below = rest })
+dropped (a ∷ rest) m last =
+    Goes (record m { function = a.function; pc = a.pc; slots = a.slots; below = rest })
 
 -- the innermost activation is saved as a frame at place n, and dropped
 abbrev pub saves : ℕ → Machine → Did
 saves n m =
     let saved = record { function = m.function; place = n; slots = m.slots } ∷ m.saved in
-    dropped m.below (record m { mode = Unwinding; saved = saved; count = m.count + 1 }) (Unwound saved m.memory (m.count + 1))
+    let unwinding = record m { mode = Unwinding; saved = saved; count = m.count + 1 } in
+    dropped m.below unwinding (Unwound saved m.memory (m.count + 1))
 
 -- an update place n: where the flag is set the thread begins to unwind
 abbrev pub flagged : Bool → ℕ → Machine → Did
@@ -122,21 +126,33 @@ abbrev pub part_at : List CallSpot → ℕ → ℕ
 part_at [] n = 0
 part_at (c ∷ rest) n = if c.place == n then c.rebuild else part_at rest n
 
--- the outermost frame that isn't taken yet is loaded: the last one goes to its mark, and the thread runs;
--- each other one goes to the rebuilding part of its call
+-- the outermost frame that isn't taken yet is loaded: the last one goes to its mark, and the
+-- thread runs; each other one goes to the rebuilding part of its call
 abbrev pub loaded : CodeFunction → List Frame → Machine → Did
 loaded c [] m = Over Stuck
 loaded c (f ∷ []) m =
-    Goes (record m { mode = Running; pc = slice_index_or c.marks f.place 0; slots = f.slots; saved = []; count = m.count + 1 })
+    Goes (record m {
+      mode = Running;
+      pc = slice_index_or c.marks f.place 0;
+      slots = f.slots;
+      saved = [];
+      count = m.count + 1;
+    })
 loaded c (f ∷ g ∷ rest) m =
-    Goes (record m { pc = part_at c.calls f.place; slots = f.slots; saved = g ∷ rest; count = m.count + 1 })
+    Goes (record m {
+      pc = part_at c.calls f.place;
+      slots = f.slots;
+      saved = g ∷ rest;
+      count = m.count + 1;
+    })
 
 -- the start of a function: while the thread rebuilds, a frame is loaded
 abbrev pub restore : Mode → CodeFunction → Machine → Did
 restore Rebuilding c m = loaded c m.saved m
 restore _ c m = Goes (advance m)
 
--- the function g is called with the operands that its parameters take, unless the limit of frames is passed
+-- the function g is called with the operands that its parameters take, unless the limit of frames
+-- is passed
 abbrev pub pushed : Bool → CodeFunction → ℕ → Machine → Did
 pushed true c g m =
     let args = reverse (take c.params m.operands) in
@@ -152,7 +168,9 @@ pushed false c g m = Over (Trapped trap.Frames (m.count + 1))
 
 -- the outermost activation has returned a value: the thread ends, and with thread 0 the program
 abbrev pub ended : Setting → ℤ → Machine → Ran
-ended w v m = if w.number == 0 then Finished (cast_unsigned w32 v % 256) (m.count + 1) else Ended m.memory (m.count + 1)
+ended w v m =
+    if w.number == 0 then Finished (cast_unsigned w32 v % 256) (m.count + 1)
+    else Ended m.memory (m.count + 1)
 
 -- a lock, which takes the mutex or waits for another thread
 abbrev pub takes : Bool → State → Machine → Did
@@ -166,14 +184,17 @@ joins w (pos u) rest m =
     then Over (Trapped trap.Join (m.count + 1))
     else (if is_live_in m.memory.marks u
     then Over Blocked
-    else (if nat_lt u (length m.memory.marks) then Goes (with_operands m rest) else Over (Trapped trap.Join (m.count + 1))))
+    else (if nat_lt u (length m.memory.marks)
+    then Goes (with_operands m rest)
+    else Over (Trapped trap.Join (m.count + 1))))
 joins w (negsuc u) rest m = Over (Trapped trap.Join (m.count + 1))
 
 -- a text is printed with the operands that its `%d` take
 abbrev pub prints : List ℕ → Machine → Did
 prints text m =
     let n = unwrap_or (directives text) 0 in
-    on_result (put m.memory.state (printed text (reverse (take n m.operands)))) (m.count + 1) (λ st. leaves st (drop n m.operands) m)
+    let bytes = printed text (reverse (take n m.operands)) in
+    on_result (put m.memory.state bytes) (m.count + 1) (λ st. leaves st (drop n m.operands) m)
 
 -- one instruction of the innermost activation; a run stops before a mark
 abbrev pub act : Setting → Option Instr → Machine → Did
@@ -183,23 +204,30 @@ act w (Some (i.After n to)) m = after m.mode n to m
 act w (Some i.Restore) m = restore m.mode (function_in w.code m.function) m
 act w (Some (i.Const v)) m = Goes (with_operands m (v ∷ m.operands))
 act w (Some (i.Get k)) m = Goes (with_operands m (slice_index_or m.slots k (pos 0) ∷ m.operands))
-act w (Some (i.Gget g)) m = Goes (with_operands m (slice_index_or (values_of m.memory.state g) 0 (pos 0) ∷ m.operands))
-act w (Some (i.Set k)) m = on_top m.operands (λ v rest. Goes (record (with_operands m rest) { slots = slice_set m.slots k v }))
-act w (Some (i.Gset g)) m = on_top m.operands (λ v rest. leaves (set_scalar m.memory.state g v) rest m)
+act w (Some (i.Gget g)) m =
+    Goes (with_operands m (slice_index_or (values_of m.memory.state g) 0 (pos 0) ∷ m.operands))
+act w (Some (i.Set k)) m =
+    on_top m.operands
+    (λ v rest. Goes (record (with_operands m rest) { slots = slice_set m.slots k v }))
+act w (Some (i.Gset g)) m =
+    on_top m.operands (λ v rest. leaves (set_scalar m.memory.state g v) rest m)
 act w (Some (i.Aget g)) m =
     on_top m.operands (λ at rest.
-    on_result (element (values_of m.memory.state g) at) (m.count + 1) (λ v. Goes (with_operands m (v ∷ rest))))
+    on_result (element (values_of m.memory.state g) at) (m.count + 1)
+    (λ v. Goes (with_operands m (v ∷ rest))))
 act w (Some (i.Aset g)) m =
     on_top m.operands (λ v more.
     on_top more (λ at rest.
     on_result (written m.memory.state g at v) (m.count + 1) (λ st. leaves st rest m)))
 act w (Some (i.Fget owner field)) m =
     on_top m.operands (λ o rest.
-    on_result (field_of m.memory.state.heap.objects o owner field) (m.count + 1) (λ v. Goes (with_operands m (v ∷ rest))))
+    on_result (field_of m.memory.state.heap.objects o owner field) (m.count + 1)
+    (λ v. Goes (with_operands m (v ∷ rest))))
 act w (Some (i.Fset owner field)) m =
     on_top m.operands (λ v more.
     on_top more (λ o rest.
-    on_result (field_written m.memory.state o owner field v) (m.count + 1) (λ st. leaves st rest m)))
+    on_result (field_written m.memory.state o owner field v) (m.count + 1)
+    (λ st. leaves st rest m)))
 act w (Some (i.Un op)) m = on_top m.operands (λ x rest. Goes (with_operands m (unary op x ∷ rest)))
 act w (Some (i.Bin op)) m =
     on_top m.operands (λ y more.
@@ -207,18 +235,26 @@ act w (Some (i.Bin op)) m =
     on_result (binary op x y) (m.count + 1) (λ v. Goes (with_operands m (v ∷ rest)))))
 act w (Some (i.Jump to)) m = Goes (record (advance m) { pc = to })
 act w (Some (i.Jz to)) m =
-    on_top m.operands (λ v rest. Goes (record (with_operands m rest) { pc = if is_true v then m.pc + 1 else to }))
-act w (Some (i.Call g)) m = pushed (nat_lt (length m.below + 1) max_frames) (function_in w.code g) g m
+    on_top m.operands
+    (λ v rest. Goes (record (with_operands m rest) { pc = if is_true v then m.pc + 1 else to }))
+act w (Some (i.Call g)) m =
+    pushed (nat_lt (length m.below + 1) max_frames) (function_in w.code g) g m
 act w (Some i.Ret) m =
-    on_top m.operands (λ v rest. dropped m.below (record m { returned = v; operands = rest; count = m.count + 1 }) (ended w v m))
+    on_top m.operands
+    (λ v rest.
+    dropped m.below (record m { returned = v; operands = rest; count = m.count + 1 }) (ended w v m))
 act w (Some (i.Print k)) m = prints (slice_index_or w.code.texts k []) m
 act w (Some (i.New owner)) m =
-    on_result (made m.memory.fields m.memory.state owner) (m.count + 1) (λ r. leaves r.1 (r.0 ∷ m.operands) m)
+    on_result (made m.memory.fields m.memory.state owner) (m.count + 1)
+    (λ r. leaves r.1 (r.0 ∷ m.operands) m)
 act w (Some i.Getc) m = leaves (got m.memory.state).1 ((got m.memory.state).0 ∷ m.operands) m
 act w (Some i.Free) m =
-    on_top m.operands (λ o rest. on_result (freed m.memory.state o) (m.count + 1) (λ st. leaves st rest m))
-act w (Some (i.Lock k)) m = on_result (locked m.memory.state k w.number) (m.count + 1) (λ r. takes r.0 r.1 m)
-act w (Some (i.Unlock k)) m = on_result (unlocked m.memory.state k w.number) (m.count + 1) (λ st. leaves st m.operands m)
+    on_top m.operands (λ o rest. on_result (freed m.memory.state o) (m.count + 1)
+    (λ st. leaves st rest m))
+act w (Some (i.Lock k)) m =
+    on_result (locked m.memory.state k w.number) (m.count + 1) (λ r. takes r.0 r.1 m)
+act w (Some (i.Unlock k)) m =
+    on_result (unlocked m.memory.state k w.number) (m.count + 1) (λ st. leaves st m.operands m)
 act w (Some i.Join) m = on_top m.operands (λ v rest. joins w v rest m)
 act w (Some (i.Spawn g)) m =
     on_top m.operands (λ v rest.
@@ -279,16 +315,17 @@ abbrev pub begins : TargetCode → ℕ → ℤ → Target
 begins code f argument =
     let c = function_in code f in
     let args = take c.params (argument ∷ []) in
+    let slots = args ++ replicate (c.slots - length args) (pos 0) in
     record {
       mode = Running;
-      activations = record { function = f; pc = 1; slots = args ++ replicate (c.slots - length args) (pos 0) } ∷ [];
+      activations = record { function = f; pc = 1; slots = slots } ∷ [];
       returned = pos 0;
       saved = [];
       count = 0;
     }
 
--- the machine that rebuilds a saved thread: one activation of the outermost saved frame's function, with zeros, at its
--- `restore`. This first activation isn't counted
+-- the machine that rebuilds a saved thread: one activation of the outermost saved frame's
+-- function, with zeros, at its `restore`. This first activation isn't counted
 abbrev pub rebuilds : TargetCode → Target → Memory → Machine
 rebuilds code t memory =
     let f = outermost t.saved in

@@ -23,9 +23,9 @@ use Rattle.target_code.specs.Machine.{Setting, Ran, Stopped, Trapped, Ended, Fin
 use Rattle.target_code.specs.Seen.{seen}
 use Rattle.target_code.specs.Target.{Target}
 
--- the running program between two events: the code, what the threads share, the threads (none in place of one that has
--- ended), how many instructions all threads ran, those that ended too, whether the code is the new program's,
--- and the frames that were saved and loaded, in this order
+-- the running program between two events: the code, what the threads share, the threads (none in
+-- place of one that has ended), how many instructions all threads ran, those that ended too,
+-- whether the code is the new program's, and the frames that were saved and loaded, in this order
 pub record TargetCore : Type 0 where
   pub code : TargetCode
   pub memory : Memory
@@ -83,10 +83,16 @@ with_new_thread c = joined_by c (slice_get c.memory.marks (length c.threads))
 
 -- the core after a turn of thread t. A trap and the program's end leave all but the counts
 abbrev pub after_turn : TargetCore → ℕ → Target → Ran → Option TargetCore
-after_turn c t x (Stopped m) = Some (with_new_thread (record (with_target (counted c x.count m.count) t (Some (target_of m))) { memory = m.memory }))
-after_turn c t x (Ended memory n) = Some (record (with_target (counted c x.count n) t None) { memory = record memory { marks = ended memory.marks t } })
-after_turn c t x (Trapped cause n) = Some (with_target (counted c x.count n) t (Some (record x { count = n })))
-after_turn c t x (Finished status n) = Some (with_target (counted c x.count n) t (Some (record x { count = n })))
+after_turn c t x (Stopped m) =
+    let d = with_target (counted c x.count m.count) t (Some (target_of m)) in
+    Some (with_new_thread (record d { memory = m.memory }))
+after_turn c t x (Ended memory n) =
+    let d = with_target (counted c x.count n) t None in
+    Some (record d { memory = record memory { marks = ended memory.marks t } })
+after_turn c t x (Trapped cause n) =
+    Some (with_target (counted c x.count n) t (Some (record x { count = n })))
+after_turn c t x (Finished status n) =
+    Some (with_target (counted c x.count n) t (Some (record x { count = n })))
 after_turn c t x (Unwound saved memory n) = None
 after_turn c t x Blocked = None
 after_turn c t x Unfinished = None
@@ -94,18 +100,21 @@ after_turn c t x Stuck = None
 
 -- a frame of thread t in a trace: it is saved, or else loaded
 abbrev pub trace_mark : Bool → ℕ → Bool → Frame → TraceMark
-trace_mark save t new f = record { save = save; thread = t; new = new; function = f.function; place = f.place }
+trace_mark save t new f =
+    record { save = save; thread = t; new = new; function = f.function; place = f.place }
 
 -- the core after thread t has unwound: all its frames are saved, the innermost first
 abbrev pub after_unwinding : TargetCore → ℕ → Target → Ran → Option TargetCore
 after_unwinding c t x (Unwound saved memory n) =
-    Some (record (with_target (counted c x.count n) t (Some (all_saved x saved n))) { trace = c.trace ++ map (trace_mark true t c.new) (reverse saved) })
+    let d = with_target (counted c x.count n) t (Some (all_saved x saved n)) in
+    Some (record d { trace = c.trace ++ map (trace_mark true t c.new) (reverse saved) })
 after_unwinding c t x _ = None
 
 -- the core after thread t has rebuilt its frames: all are loaded, the outermost first
 abbrev pub after_rebuilding : TargetCore → ℕ → Target → Ran → Option TargetCore
 after_rebuilding c t x (Stopped m) =
-    Some (record (with_target (counted c x.count m.count) t (Some (target_of m))) { trace = c.trace ++ map (trace_mark false t c.new) x.saved })
+    let d = with_target (counted c x.count m.count) t (Some (target_of m)) in
+    Some (record d { trace = c.trace ++ map (trace_mark false t c.new) x.saved })
 after_rebuilding c t x _ = None
 
 -- the thread of a number, where it was made and hasn't ended
@@ -122,10 +131,11 @@ abbrev pub with_saved : List (Option Target) → List (Option (List Frame)) → 
 with_saved [] frames = []
 with_saved (x ∷ threads) [] = x ∷ threads
 with_saved (None ∷ threads) (o ∷ frames) = None ∷ with_saved threads frames
-with_saved (Some x ∷ threads) (o ∷ frames) = Some (record x { saved = frames_in (Some o) }) ∷ with_saved threads frames
+with_saved (Some x ∷ threads) (o ∷ frames) =
+    Some (record x { saved = frames_in (Some o) }) ∷ with_saved threads frames
 
--- the core after an update to the program p that gives this state, where it gives one: the code of the program,
--- the parts of the state, and its frames as the threads' saved ones
+-- the core after an update to the program p that gives this state, where it gives one: the code of
+-- the program, the parts of the state, and its frames as the threads' saved ones
 abbrev pub after_update : TargetCore → Lifted → Result State Reason → Option TargetCore
 after_update c p (Ok s) = Some (record c {
   code = code_of p;
@@ -139,21 +149,28 @@ after_update c p (Err r) = None
 abbrev pub updated_by : TargetCore → Armed → Option TargetCore
 updated_by c a = after_update c a.patch.new (update a.patch (state_of c))
 
--- the core after an event, in which a thread looks at n instructions at most; none where it needs more.
--- A Step is a turn, a Park an unwinding, a Resume a rebuilding. Whether the event is legal isn't asked here
+-- the core after an event, in which a thread looks at n instructions at most; none where it needs
+-- more. A Step is a turn, a Park an unwinding, a Resume a rebuilding. Whether the event is legal
+-- isn't asked here
 unfoldable pub target_next : ℕ → Settings → TargetCore → EventKind → Option TargetCore
-target_next n k c (e.Step t) = on_thread c t (λ x. after_turn c t x (turn (setting_of c t false) n (machine_of x c.memory)))
+target_next n k c (e.Step t) =
+    on_thread c t (λ x. after_turn c t x (turn (setting_of c t false) n (machine_of x c.memory)))
 target_next n k c e.Request = Some c
-target_next n k c (e.Park t) = on_thread c t (λ x. after_unwinding c t x (turn (setting_of c t true) n (machine_of x c.memory)))
+target_next n k c (e.Park t) =
+    on_thread c t
+    (λ x. after_unwinding c t x (turn (setting_of c t true) n (machine_of x c.memory)))
 target_next n k c e.Update = option_and_then (λ a. updated_by c a) k.armed
 target_next n k c (e.Refuse r) = Some c
-target_next n k c (e.Resume t) = on_thread c t (λ x. after_rebuilding c t x (go (setting_of c t false) n (rebuilds c.code x c.memory)))
+target_next n k c (e.Resume t) =
+    on_thread c t
+    (λ x. after_rebuilding c t x (go (setting_of c t false) n (rebuilds c.code x c.memory)))
 
 -- the core after one more event
 abbrev pub target_after : ℕ → Settings → Option TargetCore → Event → Option TargetCore
 target_after n k c e = option_and_then (λ d. target_next n k d e.kind) c
 
--- the core after the events of a run from its start, in each of which a thread looks at n instructions at most
+-- the core after the events of a run from its start, in each of which a thread looks at n
+-- instructions at most
 abbrev pub target_run : ℕ → Settings → List Event → Option TargetCore
 target_run n k es = fold (target_after n k) (Some (target_first k)) es
 

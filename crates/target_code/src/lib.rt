@@ -5,10 +5,14 @@
 //! `FrameStack` is a list of activations beside a number of words that are to spare.
 #![tactic(auto)]
 
-pub mod activation;
-pub mod code;
-pub mod instr;
+mod activation;
+mod code;
+mod instr;
+mod list_stack;
+mod stack;
 
 pub use activation::{Activation, FrameInfo, Mode};
-pub use code::{CallSpot, CodeFunction};
+pub use code::{CallSpot, Code, CodeFunction};
 pub use instr::Instr;
+pub use list_stack::ListStack;
+pub use stack::FrameStack;

@@ -1,4 +1,4 @@
-use Rattle.store_mem.proofs.AccessLemmas.{reads-first, stores-first, stores-element, stores-field, makes-object, gets-byte, puts-text, frees-object, locks-mutex, unlocks-mutex}
+use Rattle.store_mem.proofs.AccessLemmas.{reads-first, stores-first, sets-scalar, stores-element, stores-field, makes-object, gets-byte, puts-text, frees-object, locks-mutex, unlocks-mutex}
 use Rattle.store_mem.proofs.laws.a_step_makes_these_accesses.Goals as goal
 
 pub returns-clause-scalar : goal.returns-clause-scalar
@@ -6,6 +6,9 @@ returns-clause-scalar c = reads-first
 
 pub returns-clause-first : goal.returns-clause-first
 returns-clause-first c = stores-first
+
+pub returns-clause-set : goal.returns-clause-set
+returns-clause-set c = sets-scalar
 
 pub returns-clause-element : goal.returns-clause-element
 returns-clause-element c = stores-element

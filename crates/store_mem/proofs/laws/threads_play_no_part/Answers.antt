@@ -1,8 +1,11 @@
-use Rattle.store_mem.proofs.AccessLemmas.{written-threads, field_written-threads, made-threads, freed-threads, locked-threads, unlocked-threads, got-threads, put-threads}
+use Rattle.store_mem.proofs.AccessLemmas.{written-threads, set_scalar-threads, field_written-threads, made-threads, freed-threads, locked-threads, unlocked-threads, got-threads, put-threads}
 use Rattle.store_mem.proofs.laws.threads_play_no_part.Goals as goal
 
 pub returns-clause-write : goal.returns-clause-write
 returns-clause-write c = written-threads
+
+pub returns-clause-set_scalar : goal.returns-clause-set_scalar
+returns-clause-set_scalar c = set_scalar-threads
 
 pub returns-clause-set_field : goal.returns-clause-set_field
 returns-clause-set_field c = field_written-threads
