@@ -1,0 +1,2 @@
+pub mod SavedFrames
+pub mod Laws
