@@ -41,8 +41,8 @@ pub fn a_turn_is_a_step()
 {}
 
 /// The target's run of the events of a run leads to a core that stands for the state that the run
-/// leads to, where the program is formed and the armed patch, if any, is sound and leads to a formed
-/// one. So saving and rebuilding don't show in the state.
+/// leads to, where the program is formed and the armed patch, if any, is sound and leads to a
+/// formed one. So saving and rebuilding don't show in the state.
 pub fn targets_follow_runs()
     ensures { TargetsFollowRuns }
 {}
