@@ -31,7 +31,7 @@ use Rattle.target_laws.proofs.Calls.{thread}
 use Rattle.target_laws.proofs.Covered.{covered_at}
 use Rattle.target_laws.proofs.Frames.{top_reverse}
 use Rattle.target_laws.proofs.Instructions.{Tells, Turning}
-use Rattle.target_laws.proofs.Marks.{marked_long, marked_live, marked_count}
+use Rattle.store_mem.proofs.MarkLemmas.{counts-threads, counts-live, tells-live}
 use Rattle.target_laws.proofs.Places.{Here, here, code_at, place_within}
 use Rattle.target_laws.proofs.SavedThreads.{Rests, saved_at}
 use Rattle.target_laws.proofs.SeenFrames.{stands_seen}
@@ -75,9 +75,9 @@ module _ (p : Lifted) (c : TargetCore) (b : IsBetween p (record c { code = code_
   tells : Tells p c.memory ts0
   tells = record {
     fields = b.fields;
-    long = marked_long c.memory.marks ts0 b.marked;
-    live = λ u. marked_live c.memory.marks ts0 u b.marked;
-    live_count = marked_count c.memory.marks ts0 b.marked;
+    long = counts-threads c.memory.marks (state_of core) b.marked;
+    live = λ u. tells-live c.memory.marks (state_of core) u b.marked;
+    live_count = counts-live c.memory.marks (state_of core) b.marked;
   }
 
   live_is : is_live (state_of core) t ≡ true
