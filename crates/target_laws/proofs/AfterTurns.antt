@@ -24,7 +24,9 @@ use Rattle.target_code.specs.Target.{Target}
 use Rattle.target_code.specs.TargetRun.{TargetCore, seen_threads, state_of, counted, with_target, joined_by, after_turn}
 use Rattle.target_laws.specs.Laws.{left_by}
 use Rattle.target_laws.proofs.Halts.{run_of}
-use Rattle.target_laws.proofs.Marks.{marked_long, marked_set, marked_end, marked_more}
+use Rattle.store_mem.proofs.KeepLemmas.{end-keeps}
+use Rattle.store_mem.proofs.MarkLemmas.{counts-threads}
+use Rattle.target_laws.proofs.Marks.{marked_set, marked_more}
 use Rattle.target_laws.proofs.Places.{code_at}
 use Rattle.target_laws.proofs.SavedThreads.{Rests, is_saved_mode, is_saved, saved_at, saved_of, saved_same, saved_more}
 use Rattle.target_laws.proofs.SeenFrames.{stands_seen}
@@ -75,7 +77,7 @@ module _ (p : Lifted) (c : TargetCore) (b : IsBetween p (record c { code = code_
   seen_set o = map_set (λ o. option_map (λ y. seen (code_of p) y) o) c.threads t o
 
   marks_long : length c.memory.marks ≡ length c.threads
-  marks_long = marked_long c.memory.marks ts0 b.marked ∙ length_map (λ o. option_map (λ y. seen (code_of p) y) o) c.threads
+  marks_long = counts-threads c.memory.marks (with_threads ts0 c.memory.state) b.marked ∙ length_map (λ o. option_map (λ y. seen (code_of p) y) o) c.threads
 
   stopped_same : (f : Frame) (pc : ℕ) (ws : List Wait) (ret : ℤ) (memory : Memory) (n : ℕ) (ts : Threads) → Stands p f pc → AllWait p ws → Holds p c.memory ts0 memory ts → memory.marks ≡ c.memory.marks → ts ≡ ts0 → Leads (Stopped (run_of f pc ws ret memory n)) (state_with p t c.memory ts0 memory ts (reverse (f ∷ frames ws)))
   stopped_same f pc ws ret memory n ts stands wait holds same_marks same_ts =
@@ -164,7 +166,7 @@ module _ (p : Lifted) (c : TargetCore) (b : IsBetween p (record c { code = code_
           code = refl;
           fields = b.fields;
           shared = b.shared;
-          marked = subst (λ l. Marked (ended c.memory.marks t) l) (sym (seen_set None)) (marked_end c.memory.marks ts0 t b.marked);
+          marked = subst (λ l. Marked (ended c.memory.marks t) l) (sym (seen_set None)) (end-keeps c.memory.marks (with_threads ts0 c.memory.state) t b.marked);
           threads = All-set (λ o. Rests p o) c.threads t None tt b.threads;
         },
         keeps_saved None refl,

@@ -59,7 +59,7 @@ pub record Follows (c : Core) (d : TargetCore) : Type 0 where
   pub parked : (u : ℕ) → is_parked c u ≡ saved_at d.threads u
 
 -- an event leads the target to a core that stands for the source's
-abbrev Onward : Settings → TargetCore → EventKind → Core → Type 0
+abbrev pub Onward : Settings → TargetCore → EventKind → Core → Type 0
 Onward k d x c = (n : ℕ) × (next_core : TargetCore) × (target_next n k d x ≡ Some next_core) × Follows c next_core
 
 -- the thread that stands for these frames
@@ -192,7 +192,7 @@ abbrev program_by : Option Armed → Lifted → Lifted
 program_by armed p = elim armed as (λ _. Lifted) [ None ↦ p | Some a ↦ a.patch.new ]
 
 -- a program is formed, and a state valid for it
-abbrev IsKept : Lifted → State → Type 0
+abbrev pub IsKept : Lifted → State → Type 0
 IsKept p s = IsFormed p × Valid p s
 
 update_case : (k : Settings) (c : Core) (d : TargetCore) (s : State) (o : Option Armed) → k.armed ≡ o → Follows c d → Valid c.program c.state → decided k c ≡ Ok s → IsKept (new_program k c) s → ((u : ℕ) → is_live c.state u ≡ true → is_parked c u ≡ true)
@@ -214,7 +214,7 @@ stays k c c2 d h s p q =
     }
 
 -- an event leads the target on as it leads the source
-event_follows : (k : Settings) (c c2 : Core) (d : TargetCore) (x : EventKind) → Follows c d → Valid c.program c.state → next k c x ≡ Some c2 → IsKept c2.program c2.state → Onward k d x c2
+pub event_follows : (k : Settings) (c c2 : Core) (d : TargetCore) (x : EventKind) → Follows c d → Valid c.program c.state → next k c x ≡ Some c2 → IsKept c2.program c2.state → Onward k d x c2
 unfolding target_next
 event_follows k c c2 d e.Request h valid leads keeps =
     let r = request_is k c c2 leads in
@@ -239,7 +239,7 @@ event_follows k c c2 d (e.Resume t) h valid leads keeps =
     subst (λ q. Onward k d (e.Resume t) q) (sym r.1) (resumes_follow k c d t h valid (and_last (is_after c.phase) (is_parked c t) r.0))
 
 -- one more event of the target's run
-target_more : (k : Settings) (es : List Event) (x : Event) (d d2 : TargetCore) (n : ℕ) → IsTargetRun k es d → target_next n k d x.kind ≡ Some d2 → IsTargetRun k (es ++ x ∷ []) d2
+pub target_more : (k : Settings) (es : List Event) (x : Event) (d d2 : TargetCore) (n : ℕ) → IsTargetRun k es d → target_next n k d x.kind ≡ Some d2 → IsTargetRun k (es ++ x ∷ []) d2
 target_more k es x d d2 n r leads =
     let all = r.fuel + n in
     let front : target_run all k es ≡ Some d = more_fuel r.fuel all k es d (omega arith) r.leads in
@@ -250,7 +250,7 @@ target_more k es x d d2 n r leads =
     }
 
 -- what the run leads to, from a run of the source and one of the target that stands for it
-abbrev Reached : Settings → List Event → Core → Type 0
+abbrev pub Reached : Settings → List Event → Core → Type 0
 Reached k es c = (d : TargetCore) × IsTargetRun k es d × Follows c d
 
 follows_from : (k : Settings) → IsFormed k.program → IsWellArmed k → (front es : List Event) (c c2 : Core) (d : TargetCore) → run k front ≡ Some c → IsTargetRun k front d → Follows c d → run_from k c es ≡ Some c2 → Reached k (front ++ es) c2

@@ -20,7 +20,7 @@ use Rattle.c_tree.specs.Step.{Outcome, Acting, on, function_of, moved, set_slot,
 use Rattle.c_tree.specs.Step as step
 use Rattle.c_tree.specs.Typing.{directives}
 use Rattle.c_tree.specs.Value.{and_then, is_true}
-use Rattle.store_mem.proofs.AccessLemmas.{stores-element, stores-field, written-threads, field_written-threads, put-threads}
+use Rattle.store_mem.proofs.AccessLemmas.{on_if, stores-element, stores-field, written-threads, field_written-threads, put-threads}
 use Rattle.store_mem.specs.Access.{written, field_written, is_live_in, live_marks}
 use Rattle.store_mem.specs.Access.{put as put_text}
 use Rattle.store_mem.specs.Laws.{with_threads, IgnoresThreads, GivesIgnoringThreads}
@@ -41,10 +41,6 @@ use Rattle.target_laws.proofs.Turned.{Threads, Spawned, Holds, holds_first, hold
 pub on_and : {A B : Type 0} (r : Result A Trap) (h : A → B) (f : B → Outcome) → on r (λ a. f (h a)) ≡ on (and_then r (λ a. Ok (h a))) f
 on_and (Ok a) h f = refl
 on_and (Err cause) h f = refl
-
-on_if : (b : Bool) (x : State) (c : Trap) (go : State → Outcome) → (if b then go x else step.Trapped c) ≡ on (if b then Ok x else Err c) go
-on_if true x c go = refl
-on_if false x c go = refl
 
 -- a change before the threads are put back
 pub ignored_on : (change : State → Result State Trap) → IgnoresThreads change → (ts : Threads) (st : State) (f : State → Outcome) → on (change (with_threads ts st)) f ≡ on (change st) (λ n. f (with_threads ts n))

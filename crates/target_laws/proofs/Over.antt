@@ -1,5 +1,6 @@
 -- A run that is over has one end.
-use Rattle.std.proofs.Common.{◌≡◌, ℕ, zero, suc, ◌≤◌, refl, arith}
+use Rattle.std.proofs.Common.{◌≡◌, ◌≢◌, ℕ, zero, suc, ◌≤◌, refl, arith}
+use Rattle.target_laws.specs.Laws as law
 use Rattle.target_code.specs.Machine.{Setting, Machine, Ran, Unfinished, Did, Goes, Over, led, act, instr_at, go}
 
 -- the run was as long as it was allowed to be
@@ -16,3 +17,11 @@ pub longer : (w : Setting) (j k : ℕ) (m : Machine) → j ≤ k → IsOver (go 
 longer w zero k m le o = absurd o
 longer w (suc j) zero m le o = absurd (omega (arith, le))
 longer w (suc j) (suc k) m le o = led_longer (act w (instr_at w m) m) (go w j) (go w k) (λ b. longer w j k b (omega (arith, le))) o
+
+over_where : (r : Ran) → r ≢ Unfinished → IsOver r
+over_where Unfinished h = absurd (h refl)
+over_where _ h = tt
+
+-- a machine has one end
+pub one_end : law.MachinesHaveOneEnd
+one_end w m j k le h = longer w j k m le (over_where (go w j m) h)

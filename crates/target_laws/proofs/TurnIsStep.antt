@@ -24,14 +24,14 @@ use Rattle.target_code.specs.Machine as machine
 use Rattle.target_code.specs.Seen.{seen}
 use Rattle.target_code.specs.Target.{Target}
 use Rattle.target_code.specs.TargetRun.{TargetCore, seen_threads, state_of, live_in, setting_of, after_turn, target_next}
-use Rattle.target_laws.specs.Laws.{left_by, Runs, setting}
+use Rattle.target_laws.specs.Laws.{left_by, Runs, setting, EndsAs}
 use Rattle.target_laws.specs.Laws as law
 use Rattle.target_laws.proofs.AfterTurns.{leads}
 use Rattle.target_laws.proofs.Calls.{thread}
 use Rattle.target_laws.proofs.Covered.{covered_at}
 use Rattle.target_laws.proofs.Frames.{top_reverse}
 use Rattle.target_laws.proofs.Instructions.{Tells, Turning}
-use Rattle.target_laws.proofs.Marks.{marked_long, marked_live, marked_count}
+use Rattle.store_mem.proofs.MarkLemmas.{counts-threads, counts-live, tells-live}
 use Rattle.target_laws.proofs.Places.{Here, here, code_at, place_within}
 use Rattle.target_laws.proofs.SavedThreads.{Rests, saved_at}
 use Rattle.target_laws.proofs.SeenFrames.{stands_seen}
@@ -75,9 +75,9 @@ module _ (p : Lifted) (c : TargetCore) (b : IsBetween p (record c { code = code_
   tells : Tells p c.memory ts0
   tells = record {
     fields = b.fields;
-    long = marked_long c.memory.marks ts0 b.marked;
-    live = λ u. marked_live c.memory.marks ts0 u b.marked;
-    live_count = marked_count c.memory.marks ts0 b.marked;
+    long = counts-threads c.memory.marks (state_of core) b.marked;
+    live = λ u. tells-live c.memory.marks (state_of core) u b.marked;
+    live_count = counts-live c.memory.marks (state_of core) b.marked;
   }
 
   live_is : is_live (state_of core) t ≡ true
@@ -148,3 +148,26 @@ waits_too p c t b r waits =
 -- a turn waits where the step does
 pub blocked_turn_waits : law.ABlockedTurnWaits
 blocked_turn_waits p c t b r waits = subst (λ code. WaitsToo p t (record c { code = code })) (sym b.code) (waits_too p c t) b r waits
+
+ends_as : (p : Lifted) (t : ℕ) (memory : Memory) (ts : Threads) (r : Ran) (o : Outcome) → Agrees p t memory ts r o → EndsAs r o
+ends_as p t memory ts (Stopped m) (source.Done s) h = tt
+ends_as p t memory ts (Ended m n) (source.Done s) h = tt
+ends_as p t memory ts (Trapped cause n) (source.Trapped cause') h = h
+ends_as p t memory ts (Finished status n) (source.Finished status') h = h
+ends_as p t memory ts machine.Blocked source.Blocked h = tt
+ends_as p t memory ts r o h = absurd h
+
+abbrev EndsAlike : Lifted → ℕ → TargetCore → Type 0
+EndsAlike p t c =
+    IsBetween p c → (r : Runs c t) → (n : ℕ) × EndsAs (turn (setting_of c t false) n (machine_of r.thread c.memory)) (step p t (state_of c))
+
+ends_alike : (p : Lifted) (c : TargetCore) (t : ℕ) → EndsAlike p t (record c { code = code_of p })
+ends_alike p c t b r =
+    let x = r.thread in
+    let runs = runs_of p x r.mode (all_at (λ o. Rests p o) c.threads t (Some x) b.threads r.is) in
+    let a = turn_agrees p c b t x r.is runs in
+    (a.0, ends_as p t c.memory (seen_threads (code_of p) c.threads) (turn (setting p t false) a.0 (machine_of x c.memory)) (step p t (state_of (record c { code = code_of p }))) a.1)
+
+-- a turn ends as its step does
+pub turn_ends_as_step : law.ATurnEndsAsItsStep
+turn_ends_as_step p c t b r = subst (λ code. EndsAlike p t (record c { code = code })) (sym b.code) (ends_alike p c t) b r

@@ -11,6 +11,7 @@ use Rattle.c_tree.specs.Formed.{IsFormed}
 use Rattle.c_tree.specs.Limits.{max_frames}
 use Rattle.c_tree.specs.Run.{Core, run}
 use Rattle.c_tree.specs.Step.{Outcome, Done, Blocked, top_of, at_frame, step}
+use Rattle.c_tree.specs.Step as source
 use Rattle.c_tree.specs.Valid.{ValidStack}
 use Rattle.state_laws.specs.Laws.{IsWellArmed}
 use Rattle.store_mem.specs.Memory.{Memory}
@@ -19,7 +20,7 @@ use Rattle.target_code.specs.declared.instr.Instr.TheVariants as i
 use Rattle.target_code.specs.declared.activation.Mode.TheVariants.{Running}
 use Rattle.target_code.specs.Between.{body_at, IsRunning, IsBetween}
 use Rattle.target_code.specs.Code.{code_of}
-use Rattle.target_code.specs.Machine.{Setting, Machine, Stopped, Unwound, go, turn, machine_of, rebuilds, target_of}
+use Rattle.target_code.specs.Machine.{Setting, Machine, Ran, Stopped, Trapped, Ended, Finished, Unwound, Unfinished, go, turn, machine_of, rebuilds, target_of}
 use Rattle.target_code.specs.Seen.{seen}
 use Rattle.target_code.specs.Target.{Target}
 use Rattle.target_code.specs.Machine as machine
@@ -40,6 +41,10 @@ JumpsStop =
 -- in the code of a formed program each test goes forward
 abbrev pub TestsGoForward : Type 0
 TestsGoForward = (p : Lifted) (f at to : ℕ) → IsFormed p → slice_get (body_at p f) at ≡ Some (i.Jz to) → at < to
+
+-- a run of a machine that is over ends the same where it may be longer
+abbrev pub MachinesHaveOneEnd : Type 0
+MachinesHaveOneEnd = (w : Setting) (m : Machine) (j k : ℕ) → j ≤ k → go w j m ≢ Unfinished → go w k m ≡ go w j m
 
 -- where each thread may look at more instructions, a run leads to the same core
 abbrev pub MoreFuelIsTheSame : Type 0
@@ -92,6 +97,22 @@ abbrev pub ATurnIsAStep : Type 0
 ATurnIsAStep =
     (p : Lifted) (k : Settings) (c : TargetCore) (t : ℕ) → IsBetween p c → Runs c t → step p t (state_of c) ≢ Blocked
     → (n : ℕ) × (d : TargetCore) × (target_next n k c (e.Step t) ≡ Some d) × (state_of d ≡ left_by (state_of c) (step p t (state_of c))) × IsBetween p d
+
+-- the end of a turn is that of a step: the same trap, the same status, or both have to wait; where the step is done,
+-- the thread stands at a mark again or has ended
+abbrev pub EndsAs : Ran → Outcome → Type 0
+EndsAs (Stopped m) (Done next) = ⊤
+EndsAs (Ended memory count) (Done next) = ⊤
+EndsAs (Trapped cause count) (source.Trapped cause') = cause ≡ cause'
+EndsAs (Finished status count) (source.Finished status') = status ≡ status'
+EndsAs machine.Blocked Blocked = ⊤
+EndsAs _ _ = ⊥
+
+-- a turn of a thread that runs ends as its step does, so it waits where the step has to
+abbrev pub ATurnEndsAsItsStep : Type 0
+ATurnEndsAsItsStep =
+    (p : Lifted) (c : TargetCore) (t : ℕ) → IsBetween p c → (r : Runs c t)
+    → (n : ℕ) × EndsAs (turn (setting_of c t false) n (machine_of r.thread c.memory)) (step p t (state_of c))
 
 -- where the step has to wait, so has the turn
 abbrev pub ABlockedTurnWaits : Type 0

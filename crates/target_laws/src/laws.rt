@@ -1,6 +1,6 @@
 //! What holds of the target machine and its code.
 
-ghost use Rattle.target_laws.specs.Laws.{JumpsStop, TestsGoForward, MoreFuelIsTheSame, RunsHaveOneTarget, AnUnwindingSaves, ARebuildingLoads, ValidStacksAreSound, ATurnIsAStep, ABlockedTurnWaits, TargetsFollowRuns};
+ghost use Rattle.target_laws.specs.Laws.{JumpsStop, TestsGoForward, MachinesHaveOneEnd, MoreFuelIsTheSame, RunsHaveOneTarget, AnUnwindingSaves, ARebuildingLoads, ValidStacksAreSound, ATurnIsAStep, ATurnEndsAsItsStep, ABlockedTurnWaits, TargetsFollowRuns};
 
 /// In the code of a formed program each jump goes forward, or to a mark or an `after`, and each
 /// test goes forward.
@@ -9,8 +9,10 @@ pub fn jumps_stop()
     ensures tests { TestsGoForward }
 {}
 
-/// The target's run of a list of events leads to one core, and more fuel leads to the same.
+/// The target's run of a list of events leads to one core, and more fuel leads to the same; so does
+/// a run of one thread that is over.
 pub fn a_run_has_one_target()
+    ensures machine { MachinesHaveOneEnd }
     ensures fuel { MoreFuelIsTheSame }
     ensures one { RunsHaveOneTarget }
 {}
@@ -34,9 +36,10 @@ pub fn valid_stacks_are_sound()
 
 /// Between two events a turn of a thread that runs comes to an end, stands for the state that the
 /// thread's step leaves, and leaves what is true between two events; a trap and the program's end
-/// leave the state. Where the step has to wait, so has the turn.
+/// leave the state. It ends as the step does: with the same trap or status, or has to wait as well.
 pub fn a_turn_is_a_step()
     ensures turn { ATurnIsAStep }
+    ensures ends { ATurnEndsAsItsStep }
     ensures waits { ABlockedTurnWaits }
 {}
 
