@@ -1,0 +1,7 @@
+pub mod SizeLemmas
+pub mod ExtentLemmas
+pub mod StatementLemmas
+pub mod PlaceLemmas
+pub mod CallLemmas
+pub mod TextLemmas
+pub mod FunctionLemmas

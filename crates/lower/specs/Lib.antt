@@ -1,0 +1,5 @@
+-- the numbers of texts as they are kept
+pub mod Texts
+pub mod Numbers
+-- the extent of rebuilding parts
+pub mod Calls
