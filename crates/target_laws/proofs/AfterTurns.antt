@@ -173,7 +173,7 @@ module _ (p : Lifted) (c : TargetCore) (b : IsBetween p (record c { code = code_
       )
 
   -- the thread ran some instructions, and all else is as before
-  stayed : (n : ℕ) → (state_of (with_target (counted core x.count n) t (Some (record x { count = n }))) ≡ state_of core) × IsBetween p (with_target (counted core x.count n) t (Some (record x { count = n })))
+  pub stayed : (n : ℕ) → (state_of (with_target (counted core x.count n) t (Some (record x { count = n }))) ≡ state_of core) × IsBetween p (with_target (counted core x.count n) t (Some (record x { count = n })))
   stayed n =
       let y = record x { count = n } in
       let seen_is : seen_threads (code_of p) (slice_set c.threads t (Some y)) ≡ ts0 = seen_set (Some y) ∙ set_same ts0 t (Some (seen (code_of p) x)) seen_there in

@@ -1,7 +1,6 @@
 -- Each jump of the code goes forward, or to a mark or an `after`.
-use Rattle.std.proofs.Common.{◌≡◌, ◌⊎◌, inl, inr, ℕ, zero, suc, ◌+◌, ◌<◌, ◌≤◌, List, [], ◌∷◌, ◌++◌, length, replicate, Option, Some, None, pos, refl, sym, ◌∙◌, subst, arith}
+use Rattle.std.proofs.Common.{◌≡◌, ◌⊎◌, inl, inr, ℕ, zero, suc, ◌+◌, ◌<◌, ◌≤◌, List, [], ◌∷◌, ◌++◌, length, replicate, Some, None, pos, refl, sym, ◌∙◌, subst, arith}
 use Rattle.std.specs.Prelude.{Bool, false, true, All, slice_get, slice_index_or}
-use Rattle.std.proofs.lemmas.Option.{slice_get_within}
 use Rattle.c_tree.specs.declared.lifted.LExpr.{LExpr, more_of-LExpr as only}
 use Rattle.c_tree.specs.declared.lifted.LExpr.TheVariants as e
 use Rattle.c_tree.specs.declared.lifted.LStmt.{LStmt, Row_of-LStmt, end_of-LStmt, more_of-LStmt}
@@ -27,6 +26,7 @@ use Rattle.std.proofs.lemmas.List.{length-replicate}
 use Rattle.target_laws.specs.Laws.{IsStop}
 use Rattle.target_laws.specs.Laws as law
 use Rattle.target_laws.proofs.Lengths.{expr_length, args_length, dest_length, act_length, over_length, stmt_length, rows_length}
+use Rattle.target_laws.proofs.Everywhere.{AllAt, both, everywhere_at}
 use Rattle.target_laws.proofs.Blocks.{HasAt, has_front, has_back, has_all, Blocks, function_blocks}
 use Rattle.target_laws.proofs.Places.{some_same}
 use Rattle.target_laws.proofs.Parts.{part_length}
@@ -46,35 +46,28 @@ module _ (code : List Instr) where
   Ahead at _ = Unit {0}
 
   abbrev pub AllAhead : ℕ → List Instr → Type 0
-  AllAhead at [] = Unit {0}
-  AllAhead at (x ∷ rest) = Ahead at x × AllAhead (at + 1) rest
-
-  both : (at n : ℕ) (a b : List Instr) → length a ≡ n → AllAhead at a → AllAhead (at + n) b → AllAhead at (a ++ b)
-  both at n [] b e h k = let f : at + n ≡ at = omega (arith, e) in subst (λ j. AllAhead j b) f k
-  both at n (x ∷ a) b e h k =
-      let f : at + n ≡ at + 1 + length a = omega (arith, e) in
-      (h.0, both (at + 1) (length a) a b refl h.1 (subst (λ j. AllAhead j b) f k))
+  AllAhead at is = AllAt Ahead at is
 
   bin_ahead : (op : BinOp) (at x y : ℕ) (a : List Instr) (b : ℕ → List Instr) → length a ≡ x → ((from : ℕ) → length (b from) ≡ y) → AllAhead at a → ((from : ℕ) → AllAhead from (b from)) → AllAhead at (bin_code op at x y a b)
   bin_ahead bin.And at x y a b la lb ha hb =
-      both at x a _ la ha (omega arith, both (at + x + 1) y (b (at + x + 1)) _ (lb (at + x + 1)) (hb (at + x + 1)) (tt, (tt, (inl (omega arith), (tt, tt)))))
+      both Ahead at x a _ la ha (omega arith, both Ahead (at + x + 1) y (b (at + x + 1)) _ (lb (at + x + 1)) (hb (at + x + 1)) (tt, (tt, (inl (omega arith), (tt, tt)))))
   bin_ahead bin.Or at x y a b la lb ha hb =
       let f : at + x + 3 ≡ at + x + 1 + 1 + 1 = omega arith in
-      both at x a _ la ha (omega arith, (tt, (inl (omega arith), subst (λ k. AllAhead k (b (at + x + 3) ++ i.Un un.Not ∷ i.Un un.Not ∷ [])) f (both (at + x + 3) y (b (at + x + 3)) _ (lb (at + x + 3)) (hb (at + x + 3)) (tt, (tt, tt))))))
-  bin_ahead op at x y a b la lb ha hb = both at x a _ la ha (both (at + x) y (b (at + x)) _ (lb (at + x)) (hb (at + x)) (tt, tt))
+      both Ahead at x a _ la ha (omega arith, (tt, (inl (omega arith), subst (λ k. AllAhead k (b (at + x + 3) ++ i.Un un.Not ∷ i.Un un.Not ∷ [])) f (both Ahead (at + x + 3) y (b (at + x + 3)) _ (lb (at + x + 3)) (hb (at + x + 3)) (tt, (tt, tt))))))
+  bin_ahead op at x y a b la lb ha hb = both Ahead at x a _ la ha (both Ahead (at + x) y (b (at + x)) _ (lb (at + x)) (hb (at + x)) (tt, tt))
 
   pub expr_ahead : (at : ℕ) (e : LExpr) → AllAhead at (expr_code at e)
   unfolding size expr_code
-  expr_ahead at (e.Elem' g _ (only x _)) = both at (size x) (expr_code at x) _ (expr_length at x) (expr_ahead at x) (tt, tt)
-  expr_ahead at (e.Field' _ (only p _) owner field) = both at (size p) (expr_code at p) _ (expr_length at p) (expr_ahead at p) (tt, tt)
-  expr_ahead at (e.Un' op _ (only a _)) = both at (size a) (expr_code at a) _ (expr_length at a) (expr_ahead at a) (tt, tt)
+  expr_ahead at (e.Elem' g _ (only x _)) = both Ahead at (size x) (expr_code at x) _ (expr_length at x) (expr_ahead at x) (tt, tt)
+  expr_ahead at (e.Field' _ (only p _) owner field) = both Ahead at (size p) (expr_code at p) _ (expr_length at p) (expr_ahead at p) (tt, tt)
+  expr_ahead at (e.Un' op _ (only a _)) = both Ahead at (size a) (expr_code at a) _ (expr_length at a) (expr_ahead at a) (tt, tt)
   expr_ahead at (e.Bin' op _ (only a _) _ (only b _)) =
       bin_ahead op at (size a) (size b) (expr_code at a) (λ from. expr_code from b) (expr_length at a) (λ from. expr_length from b) (expr_ahead at a) (λ from. expr_ahead from b)
   expr_ahead at _ = (tt, tt)
 
   args_ahead : (at : ℕ) (es : List LExpr) → AllAhead at (args_code at es)
   args_ahead at [] = tt
-  args_ahead at (e ∷ rest) = both at (size e) (expr_code at e) _ (expr_length at e) (expr_ahead at e) (args_ahead (at + size e) rest)
+  args_ahead at (e ∷ rest) = both Ahead at (size e) (expr_code at e) _ (expr_length at e) (expr_ahead at e) (args_ahead (at + size e) rest)
 
   dest_ahead : (at : ℕ) (to : Dest) → AllAhead at (dest_code at to)
   dest_ahead at (d.Slot k) = tt
@@ -91,15 +84,15 @@ module _ (code : List Instr) where
   do_ahead : (t : ℕ → ℕ) (at n : ℕ) (stmt : LStmt) → AllAhead at (do_code t at n stmt)
   do_ahead t at n (s.Assign to e) =
       let from = at + dest_size to in
-      both at (dest_size to) (dest_code at to) _ (dest_length at to) (dest_ahead at to) (both from (size e) (expr_code from e) _ (expr_length from e) (expr_ahead from e) (store_ahead (from + size e) to, tt))
-  do_ahead t at n (s.Print text args) = both at (sizes args) (args_code at args) _ (args_length at args) (args_ahead at args) (tt, tt)
-  do_ahead t at n (s.Free e) = both at (size e) (expr_code at e) _ (expr_length at e) (expr_ahead at e) (tt, tt)
-  do_ahead t at n (s.Call to f args) = both at (sizes args) (args_code at args) _ (args_length at args) (args_ahead at args) (tt, (tt, tt))
+      both Ahead at (dest_size to) (dest_code at to) _ (dest_length at to) (dest_ahead at to) (both Ahead from (size e) (expr_code from e) _ (expr_length from e) (expr_ahead from e) (store_ahead (from + size e) to, tt))
+  do_ahead t at n (s.Print text args) = both Ahead at (sizes args) (args_code at args) _ (args_length at args) (args_ahead at args) (tt, tt)
+  do_ahead t at n (s.Free e) = both Ahead at (size e) (expr_code at e) _ (expr_length at e) (expr_ahead at e) (tt, tt)
+  do_ahead t at n (s.Call to f args) = both Ahead at (sizes args) (args_code at args) _ (args_length at args) (args_ahead at args) (tt, (tt, tt))
   do_ahead t at n (s.Spawn to f e) =
       let from = at + dest_size to in
-      both at (dest_size to) (dest_code at to) _ (dest_length at to) (dest_ahead at to) (both from (size e) (expr_code from e) _ (expr_length from e) (expr_ahead from e) (tt, (store_ahead (from + size e + 1) to, tt)))
-  do_ahead t at n (s.Join e) = (tt, both (at + 1) (size e) (expr_code (at + 1) e) _ (expr_length (at + 1) e) (expr_ahead (at + 1) e) (tt, tt))
-  do_ahead t at n (s.Return (Some e)) = both at (size e) (expr_code at e) _ (expr_length at e) (expr_ahead at e) (tt, tt)
+      both Ahead at (dest_size to) (dest_code at to) _ (dest_length at to) (dest_ahead at to) (both Ahead from (size e) (expr_code from e) _ (expr_length from e) (expr_ahead from e) (tt, (store_ahead (from + size e + 1) to, tt)))
+  do_ahead t at n (s.Join e) = (tt, both Ahead (at + 1) (size e) (expr_code (at + 1) e) _ (expr_length (at + 1) e) (expr_ahead (at + 1) e) (tt, tt))
+  do_ahead t at n (s.Return (Some e)) = both Ahead at (size e) (expr_code at e) _ (expr_length at e) (expr_ahead at e) (tt, tt)
   do_ahead t at n (s.Return None) = (tt, (tt, tt))
   do_ahead t at n (s.New slot owner) = (tt, (tt, tt))
   do_ahead t at n (s.Getc slot) = (tt, (tt, tt))
@@ -150,7 +143,7 @@ module _ (code : List Instr) where
         let hb = has_back code mid (over b) (jump_over b (no + rows_size b)) _ (over_length b (no + rows_size b)) h2 in
         let ra = rows_ahead t x within yes (n + 1) a (omega (arith, l)) (omega (arith, g)) f.0 (has_front code yes (rows_code t x yes (n + 1) a) _ h1.1) in
         let rb = rows_ahead t x within no (n + 1 + counts a) b (omega (arith, l)) (omega (arith, g)) f.1 hb in
-        both at (act_size (Test e)) (act_code t at n (Test e)) _ (act_length t at n (Test e)) (act_ahead t at n (Test e)) (omega arith, both yes (rows_size a) (rows_code t x yes (n + 1) a) _ (rows_length t x yes (n + 1) a) ra (both mid (over b) (jump_over b (no + rows_size b)) _ (over_length b (no + rows_size b)) (over_ahead b mid (no + rows_size b) (omega arith)) rb))
+        both Ahead at (act_size (Test e)) (act_code t at n (Test e)) _ (act_length t at n (Test e)) (act_ahead t at n (Test e)) (omega arith, both Ahead yes (rows_size a) (rows_code t x yes (n + 1) a) _ (rows_length t x yes (n + 1) a) ra (both Ahead mid (over b) (jump_over b (no + rows_size b)) _ (over_length b (no + rows_size b)) (over_ahead b mid (no + rows_size b) (omega arith)) rb))
     stmt_ahead t x within at n (s.Loop' kc c e kb b kd d) l g f h =
         let test = at + rows_size c in
         let body = test + act_size (Test e) + 1 in
@@ -169,7 +162,7 @@ module _ (code : List Instr) where
         let rc = rows_ahead t x false at n c (omega (arith, l)) (omega (arith, g)) f.0 hc in
         let rb = rows_ahead t inner true body (nt + 1) b (omega arith) (omega arith) f.1 (has_front code body (rows_code t inner body (nt + 1) b) _ h2.1) in
         let rd = rows_ahead t x false step ns d (omega (arith, l)) (omega (arith, g)) f.2 hd in
-        both at (rows_size c) (rows_code t x at n c) _ (rows_length t x at n c) rc (both test (act_size (Test e)) (act_code t test nt (Test e)) _ (act_length t test nt (Test e)) (act_ahead t test nt (Test e)) (omega arith, both body (rows_size b) (rows_code t inner body (nt + 1) b) _ (rows_length t inner body (nt + 1) b) rb (both step (rows_size d) (rows_code t x step ns d) _ (rows_length t x step ns d) rd (tt, (tt, (inr stop, tt))))))
+        both Ahead at (rows_size c) (rows_code t x at n c) _ (rows_length t x at n c) rc (both Ahead test (act_size (Test e)) (act_code t test nt (Test e)) _ (act_length t test nt (Test e)) (act_ahead t test nt (Test e)) (omega arith, both Ahead body (rows_size b) (rows_code t inner body (nt + 1) b) _ (rows_length t inner body (nt + 1) b) rb (both Ahead step (rows_size d) (rows_code t x step ns d) _ (rows_length t x step ns d) rd (tt, (tt, (inr stop, tt))))))
     stmt_ahead t x within at n s.Break l g f h = (inl (omega (arith, l)), tt)
     stmt_ahead t x within at n s.Continue l g f h = (inl (omega (arith, g)), tt)
     stmt_ahead t x within at n simple l g f h = act_ahead t at n (Do simple)
@@ -177,7 +170,7 @@ module _ (code : List Instr) where
     pub rows_ahead : (t : ℕ → ℕ) (x : Exits) (b : Bool) (at n : ℕ) {m : _} (row : Row_of-LStmt m) → at + rows_size row ≤ x.leave → at + rows_size row ≤ x.again → StayInLoop b row → HasAt code at (rows_code t x at n row) → AllAhead at (rows_code t x at n row)
     rows_ahead t x within at n end_of-LStmt l g f h = tt
     rows_ahead t x within at n (more_of-LStmt s rest) l g f h =
-        both at (stmt_size s) (stmt_code t x at n s) _ (stmt_length t x at n s) (stmt_ahead t x within at n s (omega (arith, l)) (omega (arith, g)) f.0 (has_front code at (stmt_code t x at n s) _ h)) (rows_ahead t x within (at + stmt_size s) (n + count s) rest (omega (arith, l)) (omega (arith, g)) f.1 (has_back code at (stmt_size s) (stmt_code t x at n s) _ (stmt_length t x at n s) h))
+        both Ahead at (stmt_size s) (stmt_code t x at n s) _ (stmt_length t x at n s) (stmt_ahead t x within at n s (omega (arith, l)) (omega (arith, g)) f.0 (has_front code at (stmt_code t x at n s) _ h)) (rows_ahead t x within (at + stmt_size s) (n + count s) rest (omega (arith, l)) (omega (arith, g)) f.1 (has_back code at (stmt_size s) (stmt_code t x at n s) _ (stmt_length t x at n s) h))
 
 -- the `after` of each call stands where its rebuilding part jumps to
 abbrev AllStop : List Instr → List Called → Type 0
@@ -206,7 +199,7 @@ parts_ahead p code at [] h = tt
 parts_ahead p code at (c ∷ rest) h =
     let n = (function_of p c.callee).params in
     let zs = replicate n (i.Const (pos 0)) in
-    both code at (n + 2) (part p c.callee c.after) (parts p rest) (part_length p c.callee c.after) (both code at n zs _ (length-replicate n (i.Const (pos 0))) (zeros_ahead code at n) (tt, (inr h.0, tt))) (parts_ahead p code (at + (n + 2)) rest h.1)
+    both (Ahead code) at (n + 2) (part p c.callee c.after) (parts p rest) (part_length p c.callee c.after) (both (Ahead code) at n zs _ (length-replicate n (i.Const (pos 0))) (zeros_ahead code at n) (tt, (inr h.0, tt))) (parts_ahead p code (at + (n + 2)) rest h.1)
 
 -- the whole code of a function
 pub body_ahead : (p : Lifted) (t : ℕ → ℕ) (f : LFunction) → StayInLoop false (row_of f.body) → AllAhead (body_of p t f) 0 (body_of p t f)
@@ -218,7 +211,7 @@ body_ahead p t f formed =
     let hr = has_front code 3 (rows_code t (outside f) 3 1 row) _ h.1.1.1 in
     let rows = rows_ahead code t (outside f) false 3 1 row (omega arith) (omega arith) formed hr in
     let stops = calls_stop t code (marks f) 0 (places f) (marks f) (function_blocks p t f) (has_all (marks f)) in
-    (tt, (tt, (tt, both code 3 (rows_size row) (rows_code t (outside f) 3 1 row) _ (rows_length t (outside f) 3 1 row) rows (both code last 3 (act_code t last (1 + counts row) Finish) (parts p (calls_of f)) refl (act_ahead code t last (1 + counts row) Finish) (parts_ahead p code (last + 3) (calls_of f) stops)))))
+    (tt, (tt, (tt, both (Ahead code) 3 (rows_size row) (rows_code t (outside f) 3 1 row) _ (rows_length t (outside f) 3 1 row) rows (both (Ahead code) last 3 (act_code t last (1 + counts row) Finish) (parts p (calls_of f)) refl (act_ahead code t last (1 + counts row) Finish) (parts_ahead p code (last + 3) (calls_of f) stops)))))
 
 bodies_ahead : (p : Lifted) (from : ℕ) (fs : List LFunction) (k : ℕ) → All (λ f. StayInLoop false (row_of f.body)) fs
     → AllAhead (slice_index_or (functions_code p from fs) k no_code).body 0 (slice_index_or (functions_code p from fs) k no_code).body
@@ -226,22 +219,8 @@ bodies_ahead p from [] k h = tt
 bodies_ahead p from (f ∷ rest) zero h = body_ahead p (text_number f from) f (h 0 f (omega arith))
 bodies_ahead p from (f ∷ rest) (suc k) h = bodies_ahead p (from + length (texts_in (places f))) rest k (λ j d l. h (suc j) d (omega (arith, l)))
 
-abbrev AheadIn : List Instr → ℕ → Option Instr → Type 0
-AheadIn code at None = Unit {0}
-AheadIn code at (Some x) = Ahead code at x
-
--- what is so of all instructions is so of one
-ahead_at : (code : List Instr) (from k : ℕ) (is : List Instr) (x : Instr) → AllAhead code from is → slice_get is k ≡ Some x → Ahead code (from + k) x
-ahead_at code from k [] x h e = absurd (let l = slice_get_within [] k x e in omega (arith, l))
-ahead_at code from zero (y ∷ is) x h e =
-    let z : from ≡ from + 0 = omega arith in subst (λ n. Ahead code n x) z (subst (λ o. AheadIn code from o) e h.0)
-ahead_at code from (suc k) (y ∷ is) x h e =
-    let z : from + 1 + k ≡ from + suc k = omega arith in subst (λ n. Ahead code n x) z (ahead_at code (from + 1) k is x h.1 e)
-
 program_ahead : (p : Lifted) (f at : ℕ) (x : Instr) → IsFormed p → slice_get (body_at p f) at ≡ Some x → Ahead (body_at p f) at x
-program_ahead p f at x formed e =
-    let z : 0 + at ≡ at = omega arith in
-    subst (λ n. Ahead (body_at p f) n x) z (ahead_at (body_at p f) 0 at (body_at p f) x (bodies_ahead p 0 p.functions f formed.loops) e)
+program_ahead p f at x formed e = everywhere_at (Ahead (body_at p f)) at (body_at p f) x (bodies_ahead p 0 p.functions f formed.loops) e
 
 -- a jump of a formed program's code goes forward or to a stop
 pub jumps_stop : law.JumpsStop

@@ -27,3 +27,7 @@ pub mod Parking
 pub mod Updating
 pub mod FirstCore
 pub mod Following
+pub mod Everywhere
+pub mod Threads
+pub mod Arriving
+pub mod Inside

@@ -43,7 +43,7 @@ not_saved : Running ≡ Saved → ⊥
 not_saved e = cc
 
 -- a thread in mode running runs
-runs_of : (p : Lifted) (x : Target) → x.mode ≡ Running → IsAtRest p x → IsRunning p x
+pub runs_of : (p : Lifted) (x : Target) → x.mode ≡ Running → IsAtRest p x → IsRunning p x
 runs_of p x m (inl r) = r
 runs_of p x m (inr q) = absurd (not_saved (sym m ∙ q.mode))
 

@@ -1,2 +1,4 @@
 pub mod SavedFrames
 pub mod Laws
+pub mod Rows
+pub mod Effects
