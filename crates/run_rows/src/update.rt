@@ -35,23 +35,9 @@ update is made
 step 0 isn't made
 resume 0 is made
 step 0 is made
+step 0 is made
 step 0 isn't made
 ";
-
-/// The events that are tried, in this order, with their names.
-const TRIED: [(&str, EventKind); 11] = [
-    ("step 0", EventKind::Step(0)),
-    ("request", EventKind::Request),
-    ("step 0", EventKind::Step(0)),
-    ("update", EventKind::Update),
-    ("park 0", EventKind::Park(0)),
-    ("resume 0", EventKind::Resume(0)),
-    ("update", EventKind::Update),
-    ("step 0", EventKind::Step(0)),
-    ("resume 0", EventKind::Resume(0)),
-    ("step 0", EventKind::Step(0)),
-    ("step 0", EventKind::Step(0)),
-];
 
 /// A line that says whether the event is made.
 fn put_made(
@@ -60,12 +46,12 @@ fn put_made(
     settings: &Settings,
     places: &mut Places,
     now: &mut Now,
-    tried: (&str, EventKind),
+    name: &str,
+    kind: EventKind,
 ) -> Result<(), AllocError>
     requires { IsReady settings.now places.old (core_now settings.now now.old) }
     ensures { OnOk result (IsReady settings.now places.new (core_now settings.now now.new)) }
 {
-    let (name, kind) = tried;
     let made = if make(alloc, settings, places, now, kind)? {
         "is made"
     } else {
@@ -74,7 +60,7 @@ fn put_made(
     write!(text, "{name} {made}\n")
 }
 
-/// A line for each event that is tried, from the start of the run.
+/// A line for each event that is tried, one after the other.
 fn put_all(
     text: &mut String,
     alloc: Global,
@@ -84,10 +70,114 @@ fn put_all(
 ) -> Result<(), AllocError>
     requires { IsReady settings.now places.old (core_now settings.now now.old) }
 {
-    for tried in TRIED {
-        put_made(text, alloc, settings, places, now, tried)?;
-    }
-    Ok(())
+    put_made(
+        text,
+        alloc,
+        settings,
+        places,
+        now,
+        "step 0",
+        EventKind::Step(0),
+    )?;
+    put_made(
+        text,
+        alloc,
+        settings,
+        places,
+        now,
+        "request",
+        EventKind::Request,
+    )?;
+    put_made(
+        text,
+        alloc,
+        settings,
+        places,
+        now,
+        "step 0",
+        EventKind::Step(0),
+    )?;
+    put_made(
+        text,
+        alloc,
+        settings,
+        places,
+        now,
+        "update",
+        EventKind::Update,
+    )?;
+    put_made(
+        text,
+        alloc,
+        settings,
+        places,
+        now,
+        "park 0",
+        EventKind::Park(0),
+    )?;
+    put_made(
+        text,
+        alloc,
+        settings,
+        places,
+        now,
+        "resume 0",
+        EventKind::Resume(0),
+    )?;
+    put_made(
+        text,
+        alloc,
+        settings,
+        places,
+        now,
+        "update",
+        EventKind::Update,
+    )?;
+    put_made(
+        text,
+        alloc,
+        settings,
+        places,
+        now,
+        "step 0",
+        EventKind::Step(0),
+    )?;
+    put_made(
+        text,
+        alloc,
+        settings,
+        places,
+        now,
+        "resume 0",
+        EventKind::Resume(0),
+    )?;
+    put_made(
+        text,
+        alloc,
+        settings,
+        places,
+        now,
+        "step 0",
+        EventKind::Step(0),
+    )?;
+    put_made(
+        text,
+        alloc,
+        settings,
+        places,
+        now,
+        "step 0",
+        EventKind::Step(0),
+    )?;
+    put_made(
+        text,
+        alloc,
+        settings,
+        places,
+        now,
+        "step 0",
+        EventKind::Step(0),
+    )
 }
 
 /// The lines of a run that is updated by the patch before its first Step.
@@ -119,7 +209,7 @@ fn differing_updates(alloc: Global) -> Result<String, AllocError> {
     let mut text = String::new(alloc);
     match read_patch(alloc, FILE.as_bytes()) {
         Ok(patch) => put_run(&mut text, alloc, patch.into_patch())?,
-        Err(FileRefused::At(_, _)) => text.push_str("the patch is refused\n")?,
+        Err(FileRefused::At(_at, _why)) => text.push_str("the patch is refused\n")?,
         Err(FileRefused::Memory(e)) => return Err(e),
     }
     let mut differing = String::new(alloc);
