@@ -1,0 +1,4 @@
+pub mod Form
+pub mod Shows
+pub mod Steps
+pub mod Write
