@@ -1,6 +1,8 @@
 -- A listing, event by event.
-use Rattle.std.proofs.Common.{◌≡◌, ℕ, zero, ◌+◌, ◌<◌, Bool, true, List, [], ◌∷◌, ◌++◌, length, take, drop, get_or, Option, Some, None, refl, ap, sym, ◌∙◌, subst, arith, suc, drop-cons, add-one}
+use Rattle.std.proofs.Common.{◌≡◌, ℕ, ◌+◌, ◌<◌, Bool, true, false, List, [], ◌∷◌, ◌++◌, length, take, drop, get_or, Option, Some, None, refl, ap, sym, ◌∙◌, subst, suc, drop-cons, add-one}
+use Rattle.std.specs.Prelude.{slice_get}
 use Rattle.std.proofs.lemmas.List.{take_more}
+use Rattle.std.proofs.lemmas.Option.{get_or_from_slice_get, slice_get_within}
 use Rattle.c_tree.specs.declared.event.Event.{Event}
 use Rattle.c_tree.specs.declared.run.Settings.{Settings}
 use Rattle.c_tree.specs.Run as r
@@ -47,12 +49,16 @@ list_takes k clean es n h h2 x l i e t =
           ∙ refused_some k clean (n + 1) (core h) (core h2) x (drop (n + 1) es) (ap (λ j. next_listed j (core h) x.kind) (sym l.same) ∙ t.0));
     }
 
-get_same : (es : List Event) (n : ℕ) (d d2 : Event) → n < length es → get_or es n d ≡ get_or es n d2
-get_same [] n d d2 h = absurd (omega arith)
-get_same (x ∷ es) zero d d2 h = refl
-get_same (x ∷ es) (suc n) d d2 h = get_same es n d d2 (omega arith)
+pub list_takes_got : (k : Settings) (clean : Bool) (es : List Event) (n : ℕ) (h h2 : History) (x : Event) (b : Bool) → OnList k clean es n h → Some x ≡ slice_get es n
+    → b ≡ true → Taken b h h2 x.worker x.kind → OnList k clean es (n + 1) h2
+list_takes_got k clean es n h h2 x b l g e t =
+    list_takes k clean es n h h2 x l (slice_get_within es n x (sym g)) (sym (get_or_from_slice_get es n x x (sym g)))
+    (subst (λ c. Taken c h h2 x.worker x.kind) e t)
 
-pub list_takes_at : (k : Settings) (clean : Bool) (es : List Event) (n : ℕ) (h h2 : History) (d : Event) (b : Bool) → OnList k clean es n h → n < length es
-    → b ≡ true → Taken b h h2 (get_or es n d).worker (get_or es n d).kind → OnList k clean es (n + 1) h2
-list_takes_at k clean es n h h2 d b l i e t =
-    list_takes k clean es n h h2 (get_or es n d) l i (get_same es n d (get_or es n d) i) (subst (λ c. Taken c h h2 (get_or es n d).worker (get_or es n d).kind) e t)
+pub list_refuses : (k : Settings) (clean : Bool) (es : List Event) (n : ℕ) (h h2 : History) (x : Event) (b : Bool) → OnList k clean es n h → Some x ≡ slice_get es n
+    → b ≡ false → Taken b h h2 x.worker x.kind → Some (n + 1) ≡ refused_at k clean 1 (r.first k) es
+list_refuses k clean es n h h2 x b l g e t =
+    let refused : Taken false h h2 x.worker x.kind = subst (λ c. Taken c h h2 x.worker x.kind) e t in
+    let here = at_event es n x (slice_get_within es n x (sym g)) (sym (get_or_from_slice_get es n x x (sym g))) in
+    sym (l.rest ∙ (ap (λ ys. refused_at k clean (n + 1) (core h) ys) here
+    ∙ refused_none k clean (n + 1) (core h) x (drop (n + 1) es) None (ap (λ j. next_listed j (core h) x.kind) (sym l.same) ∙ refused.0) refl))

@@ -22,10 +22,10 @@ IsPicked start k h (ListRefused n) = ⊥
 -- it were made
 abbrev pub IsListed : Listing → Settings → History → Driven → Type 0
 IsListed l k h (Ended end) =
-    (over h ≡ Some end) × (h.events ≡ l.events) × (l.clean ≡ true)
-    × (refused_at k l.clean 1 (first k) l.events ≡ None)
+    (over h ≡ Some end) × (h.events ≡ l.events.items) × (l.clean ≡ true)
+    × (refused_at k l.clean 1 (first k) l.events.items ≡ None)
 IsListed l k h (ListRefused n) =
-    (refused_at k l.clean 1 (first k) l.events ≡ Some n) × (h.events ≡ take (n - 1) l.events)
+    (refused_at k l.clean 1 (first k) l.events.items ≡ Some n) × (h.events ≡ take (n - 1) l.events.items)
 
 -- what a plan's answer says of the run
 abbrev pub IsDriven : Plan → Settings → History → Driven → Type 0

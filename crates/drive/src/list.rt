@@ -6,7 +6,8 @@ ghost use Rattle.c_tree.specs.Run.{first};
 ghost use Rattle.drive.specs.Listed.{refusal, EndsAs};
 
 use crate::take::take_event;
-use c_tree::{End, Event};
+use c_tree::End;
+use event_log::EventLog;
 use std::alloc::AllocError;
 use world_core::World;
 
@@ -27,17 +28,20 @@ pub enum Driven {
 ///
 /// Where memory is short, also for a listed outcome of the update. The World then holds the events
 /// up to there.
-pub fn drive_list(world: &mut World, listed: &[Event], clean: bool) -> Result<Driven, AllocError>
+pub fn drive_list(world: &mut World, listed: &EventLog, clean: bool) -> Result<Driven, AllocError>
     requires new { world.old.events ≡ [] }
     requires single { world.old.earlier ≡ [] }
     ensures answer { IfOk result (λ d. refusal d
-        ≡ refused_at world.old.settings clean 1 (first world.old.settings) listed.now) }
-    ensures ended { IfOk result (λ d. EndsAs d clean world.new listed.now) }
+        ≡ refused_at world.old.settings clean 1 (first world.old.settings)
+        listed.now.items) }
+    ensures ended { IfOk result (λ d. EndsAs d clean world.new listed.now.items) }
     ensures same { world.new.settings ≡ world.old.settings }
     ensures single { world.new.earlier ≡ [] }
 {
     for i in 0..listed.len() {
-        let event = listed[i];
+        let Some(event) = listed.get(i) else {
+            unreachable!()
+        };
         let taken = take_event(world, event.worker, event.kind)?;
         if !taken {
             return Ok(Driven::ListRefused(i as u64 + 1));
@@ -49,5 +53,9 @@ pub fn drive_list(world: &mut World, listed: &[Event], clean: bool) -> Result<Dr
             return Ok(Driven::Ended(end));
         }
     }
-    Ok(Driven::ListRefused(listed.len() as u64 + 1))
+    let count = listed.len();
+    if count == usize::MAX {
+        return Err(AllocError);
+    }
+    Ok(Driven::ListRefused(count as u64 + 1))
 }

@@ -37,6 +37,6 @@ pub fn drive(world: &mut World, plan: Plan) -> Result<Driven, AllocError>
     match plan {
         Plan::Round => Ok(Driven::Ended(drive_planned(world, Picker::Round(None))?)),
         Plan::Seed(seed) => Ok(Driven::Ended(drive_planned(world, Picker::Seed(seed))?)),
-        Plan::List(listing) => drive_list(world, listing.events.as_slice(), listing.clean),
+        Plan::List(listing) => drive_list(world, &listing.events, listing.clean),
     }
 }

@@ -4,13 +4,13 @@ ghost use Rattle.std.specs.Prelude.{IfOk};
 ghost use Rattle.history.specs.Listing.{IsListing};
 
 use crate::line::take_line;
-use c_tree::{Event, Row};
+use event_log::EventLog;
 use std::alloc::{AllocError, Global};
 
 /// The events of the lines up to the first that isn't an event's line.
 #[derive(Drop)]
 pub struct Listing {
-    pub events: Row<Event>,
+    pub events: EventLog,
     /// Whether each line is an event's, the last with its newline.
     pub clean: bool,
 }
@@ -21,9 +21,9 @@ pub struct Listing {
 ///
 /// Where the memory for the events is wanting.
 pub fn read_schedule(alloc: Global, bytes: &[u8]) -> Result<Listing, AllocError>
-    ensures { IfOk result (λ l. IsListing bytes.now l.events l.clean) }
+    ensures { IfOk result (λ l. IsListing bytes.now l.events.items l.clean) }
 {
-    let mut events = Row::from_vec(Vec::new(alloc));
+    let mut events = EventLog::new(alloc);
     let mut rest = bytes;
     while let Some((event, more)) = take_line(rest) {
         events.push(event)?;

@@ -6,6 +6,7 @@ ghost use Rattle.std.specs.Fmt.{decimal};
 ghost use Rattle.history.specs.History.{history, line, kind_text, reason_numbers, spaced};
 
 use c_tree::{Event, EventKind, Reason, Text};
+use event_log::EventLog;
 use itoa::Buffer;
 use std::alloc::{AllocError, Global};
 
@@ -80,12 +81,12 @@ fn push_line(out: &mut Vec<u8>, event: Event) -> Result<(), AllocError>
 /// # Errors
 ///
 /// Where the memory for the text is wanting.
-pub fn history_text(alloc: Global, events: &[Event]) -> Result<Text, AllocError>
-    ensures { IfOk result (λ t. t ≡ history events.now) }
+pub fn history_text(alloc: Global, events: &EventLog) -> Result<Text, AllocError>
+    ensures { IfOk result (λ t. t ≡ history events.now.items) }
 {
     let mut out = Vec::new(alloc);
     for event in events {
-        push_line(&mut out, *event)?;
+        push_line(&mut out, event)?;
     }
     Ok(Text::from_vec(out))
 }

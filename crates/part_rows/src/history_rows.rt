@@ -58,8 +58,8 @@ const NO_LINES: &[&str] = &[
 /// The events of a listing, and what is left behind them.
 fn listed(alloc: Global, listing: &Listing) -> Result<String, AllocError> {
     let mut text = String::new(alloc);
-    for event in listing.events.as_slice() {
-        put_event(&mut text, *event)?;
+    for event in &listing.events {
+        put_event(&mut text, event)?;
     }
     if !listing.clean {
         text.push_str(", and no line")?;
@@ -76,7 +76,7 @@ fn put_line(
 ) -> Result<(), AllocError> {
     let listing = read_schedule(alloc, line.as_bytes())?;
     compare(differing, line, wanted, &listed(alloc, &listing)?)?;
-    let printed = history_text(alloc, listing.events.as_slice())?;
+    let printed = history_text(alloc, &listing.events)?;
     compare(differing, line, line, word(&printed))
 }
 

@@ -14,8 +14,9 @@ ghost use Rattle.world_core.specs.History.{over};
 ghost use Rattle.world_core.specs.Refused.{named_at_refusal};
 
 use answers::{Answer, Piece, status_of};
-use c_tree::{End, Event, Patch, Reason, Row, Text};
+use c_tree::{End, Patch, Reason, Row, Text};
 use drive::history_text;
+use event_log::EventLog;
 use reports::{line, reason_words};
 use std::alloc::{AllocError, Global};
 use world_core::{Outcome, World};
@@ -25,11 +26,11 @@ fn pieces_of(
     alloc: Global,
     output: Text,
     history: Option<&str>,
-    events: &[Event],
+    events: &EventLog,
 ) -> Result<Row<Piece>, AllocError>
     ensures { IfOk result
         (λ ps. view.pieces ps ≡ meant.ToOut output ∷ replies.kept
-        (words_view.text history.entry) events.now) }
+        (words_view.text history.entry) events.now.items) }
 {
     let mut pieces = Vec::new(alloc);
     pieces.push(Piece::Out(output))?;

@@ -1,6 +1,6 @@
 -- What an event that was made keeps.
 use Rattle.std.proofs.Common.{◌≡◌, ℕ, ◌+◌, ◌≤◌, Bool, true, false, ◌&&◌, List, [], ◌∷◌, ◌++◌, length, Option, Some, None, Result, Ok, Err, refl, ap, sym, subst, ◌∙◌, arith}
-use Rattle.std.specs.Prelude.{if◌then◌else◌, vec_len, vec_capacity}
+use Rattle.std.specs.Prelude.{if◌then◌else◌}
 use Rattle.c_tree.specs.declared.event.Event.{Event}
 use Rattle.c_tree.specs.declared.event.EventKind.{EventKind}
 use Rattle.c_tree.specs.declared.event.EventKind.TheVariants as e
@@ -178,7 +178,7 @@ ready_on : (w w2 : Inside) (x : Event) → Follows w w2 x → IsReady w2.setting
 ready_on w w2 x f = subst (λ k. IsReady k w2.places (core_now k w2.here)) (sym f.settings) f.makes.ready
 
 -- what a World keeps behind an event
-pub keeps : (w w2 : Inside) (x : Event) → IsSound w → Follows w w2 x → vec_len w2.events + owed w2.here.phase w2.here.parked.items ≤ vec_capacity w2.events
+pub keeps : (w w2 : Inside) (x : Event) → IsSound w → Follows w w2 x → owed w2.here.phase w2.here.parked.items ≤ w2.events.room
     → w2.named ≡ place_named (refused_in w.settings (first_in w) (w.events.items ++ x ∷ []))
     → (r.is_after w2.here.phase ≡ false → refused_in w.settings (first_in w) (w.events.items ++ x ∷ []) ≡ None) → IsSound w2
 keeps w w2 x s f room named unrefused = record {
@@ -191,7 +191,7 @@ keeps w w2 x s f room named unrefused = record {
 
 -- what it keeps behind one that is no refusal
 pub calm_keeps : (w w2 : Inside) (x : Event) → IsSound w → Follows w w2 x → w2.named ≡ w.named → IsNoRefusal x.kind
-    → vec_len w2.events + owed w2.here.phase w2.here.parked.items ≤ vec_capacity w2.events → IsSound w2
+    → owed w2.here.phase w2.here.parked.items ≤ w2.events.room → IsSound w2
 calm_keeps w w2 x s f um q room =
     let calm = quiet-more w.settings (first_in w) w.events.items x q in
     keeps w w2 x s f room (um ∙ (s.named ∙ ap place_named (sym calm)))

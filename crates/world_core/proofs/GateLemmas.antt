@@ -1,6 +1,5 @@
 -- The events of a World but for the outcome of its update, and what they keep.
 use Rattle.std.proofs.Common.{◌≡◌, ℕ, ◌+◌, ◌≤◌, ◌<◌, true, [], map, length, Option, Some, None, refl, ap, sym, subst, ◌∙◌, arith}
-use Rattle.std.specs.Prelude.{vec_len, vec_capacity}
 use Rattle.c_tree.specs.declared.event.EventKind.TheVariants as e
 use Rattle.c_tree.specs.declared.lifted.Lifted.{Lifted}
 use Rattle.c_tree.specs.declared.run.Armed.{Armed}
@@ -25,7 +24,7 @@ use Rattle.world_core.proofs.WorldLemmas.{first_armed, first_before, may_of, ove
 
 -- a Step
 pub turn_keeps : (w w2 : Inside) (worker t : ℕ) → IsSound w → Follows w w2 (record { worker = worker; kind = e.Step t }) → w2.named ≡ w.named
-    → vec_len w2.events + owed w.here.phase w.here.parked.items ≤ vec_capacity w2.events → IsSound w2
+    → owed w.here.phase w.here.parked.items ≤ w2.events.room → IsSound w2
 turn_keeps w w2 worker t s f um room =
     let o : owed w2.here.phase w2.here.parked.items ≡ owed w.here.phase w.here.parked.items = step_owes w.settings (now_of w) (core_now w.settings w2.here) t f.makes.next in
     calm_keeps w w2 (record { worker = worker; kind = e.Step t }) s f um (λ c z. refl) (omega (arith, o, room))
@@ -53,23 +52,23 @@ turn_below w h t v s m =
 
 -- a Request
 pub request_keeps : (w w2 : Inside) (worker : ℕ) → IsSound w → Follows w w2 (record { worker = worker; kind = e.Request }) → w2.named ≡ w.named
-    → vec_len w2.events + (owed w.here.phase w.here.parked.items + 1) ≤ vec_capacity w2.events → IsSound w2
+    → owed w.here.phase w.here.parked.items + 1 ≤ w2.events.room → IsSound w2
 request_keeps w w2 worker s f um room =
     let o : owed w2.here.phase w2.here.parked.items ≤ owed w.here.phase w.here.parked.items + 1 = request_owes w.settings (now_of w) (core_now w.settings w2.here) f.makes.next in
     calm_keeps w w2 (record { worker = worker; kind = e.Request }) s f um (λ c z. refl) (omega (arith, o, room))
 
 -- a Park
 pub park_keeps : (w w2 : Inside) (worker t : ℕ) → IsSound w → Follows w w2 (record { worker = worker; kind = e.Park t }) → w2.named ≡ w.named
-    → vec_len w2.events + (owed w.here.phase w.here.parked.items + 1) ≤ vec_capacity w2.events → IsSound w2
+    → owed w.here.phase w.here.parked.items + 1 ≤ w2.events.room → IsSound w2
 park_keeps w w2 worker t s f um room =
     let o : owed w2.here.phase w2.here.parked.items ≤ owed w.here.phase w.here.parked.items + 1 = park_owes w.settings (now_of w) (core_now w.settings w2.here) t f.makes.next in
     calm_keeps w w2 (record { worker = worker; kind = e.Park t }) s f um (λ c z. refl) (omega (arith, o, room))
 
 -- more room alone
 pub roomy_keeps : (w w2 : Inside) → IsSound w → w2.earlier ≡ w.earlier → w2.settings ≡ w.settings → w2.places ≡ w.places → w2.named ≡ w.named
-    → w2.events.items ≡ w.events.items → ((p : Lifted) → core_at p w2.here ≡ core_at p w.here) → vec_len w2.events ≡ vec_len w.events
-    → vec_capacity w.events ≤ vec_capacity w2.events → IsSound w2
-roomy_keeps w w2 s ea a b um ev cp ln cap =
+    → w2.events.items ≡ w.events.items → ((p : Lifted) → core_at p w2.here ≡ core_at p w.here)
+    → w.events.room ≤ w2.events.room → IsSound w2
+roomy_keeps w w2 s ea a b um ev cp rm =
     let k = w.settings in
     let ph : w2.here.phase ≡ w.here.phase = ap (λ c. c.phase) (cp (now_of w).program) in
     let pq : present w2.here.phase k.armed k.program ≡ (now_of w).program = ap (λ p. present p k.armed k.program) ph in
@@ -87,7 +86,7 @@ roomy_keeps w w2 s ea a b um ev cp ln cap =
       ready = subst (λ j. IsReady j w2.places (core_now j w2.here)) (sym a)
           (subst (λ ps. IsReady k ps (core_now k w2.here)) (sym b) (subst (λ c. IsReady k w.places c) (sym here) s.ready));
       room = let o : owed w2.here.phase w2.here.parked.items ≡ owed w.here.phase w.here.parked.items = ap (λ c. owed c.phase c.parked) here in
-          omega (arith, o, ln, cap, s.room);
+          omega (arith, o, rm, s.room);
       named = um ∙ (s.named ∙ ap place_named (sym no));
       unrefused = λ e. no ∙ s.unrefused (ap r.is_after (sym ph) ∙ e);
     }
@@ -99,14 +98,14 @@ resume_fewer w h t v s m =
     let f = without_fewer t w.here.parked.items (resume_parked (now_of w) t may) in
     omega (arith, f)
 
-pub resume_room : (w : Inside) (h : History) (t : ℕ) → history_of w ≡ h → IsSound w → may_resume h t ≡ true → vec_len w.events < vec_capacity w.events
+pub resume_room : (w : Inside) (h : History) (t : ℕ) → history_of w ≡ h → IsSound w → may_resume h t ≡ true → 0 < w.events.room
 resume_room w h t v s m = omega (arith, s.room, resume_fewer w h t v s m)
 
 pub resume_keeps : (w w2 : Inside) (worker t : ℕ) → IsSound w → Follows w w2 (record { worker = worker; kind = e.Resume t }) → w2.named ≡ w.named
-    → vec_len w2.events ≡ vec_len w.events + 1 → vec_capacity w2.events ≡ vec_capacity w.events → IsSound w2
-resume_keeps w w2 worker t s f um ln cap =
+    → w.events.room ≤ w2.events.room + 1 → IsSound w2
+resume_keeps w w2 worker t s f um rm =
     let o : owed w2.here.phase w2.here.parked.items + 1 ≤ owed w.here.phase w.here.parked.items = resume_owes w.settings (now_of w) (core_now w.settings w2.here) t f.makes.next in
-    calm_keeps w w2 (record { worker = worker; kind = e.Resume t }) s f um (λ c z. refl) (omega (arith, ln, cap, s.room, o))
+    calm_keeps w w2 (record { worker = worker; kind = e.Resume t }) s f um (λ c z. refl) (omega (arith, rm, s.room, o))
 
 -- a run that has no event yet is armed
 before_present : (p : Phase) (w : Inside) (a : Armed) → p ≡ phase.Before → present p (Some a) w.settings.program ≡ present p w.settings.armed w.settings.program

@@ -1,6 +1,6 @@
 -- The outcome of the update of a World, and what it keeps.
 use Rattle.std.proofs.Common.{◌≡◌, ℕ, ◌+◌, ◌≤◌, ◌<◌, Bool, true, false, ◌&&◌, Option, Some, None, refl, ap, sym, subst, ◌∙◌, arith}
-use Rattle.std.specs.Prelude.{vec_len, vec_capacity, Result, Ok, Err, IfOk}
+use Rattle.std.specs.Prelude.{Result, Ok, Err, IfOk}
 use Rattle.std.specs.declared.alloc.AllocError.{AllocError}
 use Rattle.c_tree.specs.declared.event.Event.{Event}
 use Rattle.c_tree.specs.declared.event.EventKind.TheVariants as e
@@ -32,7 +32,7 @@ awaits w h v s m = record { ready = s.ready; may = may_told (λ k c. r.may_decid
 pub commit_asked : (w : Inside) (h : History) → history_of w ≡ h → IsSound w → may_commit h ≡ true → r.is_asked w.here.phase ≡ true
 commit_asked w h v s m = decide_asked (now_of w) (test_told (λ k c. r.may_decide c) w h v s ∙ may_of h (r.may_decide (core h)) m)
 
-pub commit_room : (w : Inside) (h : History) → history_of w ≡ h → IsSound w → may_commit h ≡ true → vec_len w.events < vec_capacity w.events
+pub commit_room : (w : Inside) (h : History) → history_of w ≡ h → IsSound w → may_commit h ≡ true → 0 < w.events.room
 commit_room w h v s m =
     let o : owed w.here.phase w.here.parked.items ≡ owed phase.Asked w.here.parked.items = ap (λ p. owed p w.here.parked.items) (asked_is w.here.phase (commit_asked w h v s m)) in
     omega (arith, o, s.room)
@@ -51,10 +51,10 @@ decide_told w h (Err x) v s is = tt
 
 -- an Update
 pub update_keeps : (w w2 : Inside) (worker : ℕ) → IsSound w → Follows w w2 (record { worker = worker; kind = e.Update }) → w2.named ≡ w.named
-    → vec_len w2.events ≡ vec_len w.events + 1 → vec_capacity w2.events ≡ vec_capacity w.events → IsSound w2
-update_keeps w w2 worker s f um ln cap =
+    → w.events.room ≤ w2.events.room + 1 → IsSound w2
+update_keeps w w2 worker s f um rm =
     let o : owed w2.here.phase w2.here.parked.items + 1 ≤ owed w.here.phase w.here.parked.items = update_owes w.settings (now_of w) (core_now w.settings w2.here) f.makes.next in
-    calm_keeps w w2 (record { worker = worker; kind = e.Update }) s f um (λ c z. refl) (omega (arith, ln, cap, s.room, o))
+    calm_keeps w w2 (record { worker = worker; kind = e.Update }) s f um (λ c z. refl) (omega (arith, rm, s.room, o))
 
 true_false : (b : Bool) → b ≡ true → b ≡ false → ⊥
 true_false b e f = cc
@@ -65,13 +65,13 @@ asked_not_after w e = ap r.is_after e
 -- a refusal
 pub refuse_keeps : (w w2 : Inside) (worker : ℕ) (x : Reason) → IsSound w → r.is_asked w.here.phase ≡ true → Follows w w2 (record { worker = worker; kind = e.Refuse x })
     → w2.named ≡ place_named (Some (now_of w, x))
-    → vec_len w2.events ≡ vec_len w.events + 1 → vec_capacity w2.events ≡ vec_capacity w.events → IsSound w2
-refuse_keeps w w2 worker x s asked f um ln cap =
+    → w.events.room ≤ w2.events.room + 1 → IsSound w2
+refuse_keeps w w2 worker x s asked f um rm =
     let y : Event = record { worker = worker; kind = e.Refuse x } in
     let o : owed w2.here.phase w2.here.parked.items + 1 ≤ owed w.here.phase w.here.parked.items = refuse_owes w.settings (now_of w) (core_now w.settings w2.here) x f.makes.next in
     let after : r.is_after w2.here.phase ≡ true = refuse_after w.settings (now_of w) (core_now w.settings w2.here) x f.makes.next in
     let named = refusal-more w.settings (first_in w) w.events.items y (now_of w) x refl s.leads (s.unrefused (asked_not_after w (asked_is w.here.phase asked))) in
-    keeps w w2 y s f (omega (arith, ln, cap, s.room, o)) (um ∙ ap place_named (sym named)) (λ n. absurd (true_false (r.is_after w2.here.phase) after n))
+    keeps w w2 y s f (omega (arith, rm, s.room, o)) (um ∙ ap place_named (sym named)) (λ n. absurd (true_false (r.is_after w2.here.phase) after n))
 
 refused_to : (o : Option End) (b : Bool) (c d : r.Core) (x : Reason) → r.while_on o (r.legal b (record c { phase = phase.Refused x })) ≡ Some d
     → (d.state ≡ c.state) × (d.program ≡ c.program)

@@ -13,7 +13,7 @@ use Rattle.plain_run.specs.Made as plain
 use Rattle.plain_run.proofs.FindLemmas.{find-passes}
 use Rattle.world_core.specs.History.{History, behind, core, first_from, first_of, on, over, may_turn, IsRun}
 use Rattle.world_core.specs.Sound.{IsSound, history_of, now_of}
-use Rattle.world_core.specs.declared.part.Part.{Part}
+use Rattle.world_core.specs.Part.{Part}
 use Rattle.world_core.specs.declared.world.World.TheInside.{Inside}
 
 -- the program that runs now

@@ -8,7 +8,7 @@ use Rattle.c_tree.specs.declared.run.End.{End}
 use Rattle.c_tree.specs.declared.run.Phase.TheVariants as phase
 use Rattle.c_tree.specs.declared.run.Settings.{Settings}
 use Rattle.c_tree.specs.Run as r
-use Rattle.world_core.specs.declared.part.Part.{Part}
+use Rattle.world_core.specs.Part.{Part}
 
 -- the earlier parts of a run, the first one first; and the settings of its present part and the events of that so far
 pub record History : Type 0 where

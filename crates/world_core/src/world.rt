@@ -21,6 +21,7 @@ use crate::part::Part;
 use c_meaning::able::{able, standing};
 use c_places::places;
 use c_tree::{End, Event, EventKind, Lifted, Patch, Phase, Places, Row, Settings, State, Text};
+use event_log::EventLog;
 use plain_run::Now;
 use plain_run::event::step;
 use plain_run::now::{over, owed, present};
@@ -33,7 +34,7 @@ pub struct World {
     earlier: Row<Part>,
     settings: Settings,
     places: Places,
-    events: Vec<Event>,
+    events: EventLog,
     here: Now,
     /// What the refusal of the update names, as it stood then.
     named: (u32, u32),
@@ -96,7 +97,7 @@ impl World {
             input,
             limit,
         };
-        let events = Vec::new(alloc);
+        let events = EventLog::new(alloc);
         Ok(World {
             earlier: Row::from_vec(Vec::new(alloc)),
             settings,
@@ -131,11 +132,11 @@ impl World {
     }
 
     /// The events so far. They are a legal run.
-    pub fn events(&self) -> &[Event]
-        ensures value { result.now ≡ self.now.events }
+    pub fn events(&self) -> &EventLog
+        ensures value { result.now.items ≡ self.now.events }
         ensures legal { IsRun self.now }
     {
-        self.events.as_slice()
+        &self.events
     }
 
     /// How the run is over, if it is.
@@ -213,8 +214,8 @@ impl World {
     }
 
     /// Gives the events and drops all else, with no copy.
-    pub fn into_events(self) -> Row<Event>
-        ensures value { result ≡ self.events }
+    pub fn into_events(self) -> EventLog
+        ensures value { result.items ≡ self.events }
         ensures legal { IsRun self }
     {
         let World {
@@ -225,7 +226,7 @@ impl World {
             here: _here,
             named: _named,
         } = self;
-        Row::from_vec(events)
+        events
     }
 
     /// Makes a Step of a thread, as a worker. Where memory is short all stays.
@@ -240,7 +241,7 @@ impl World {
         ensures err { OnErr result (self.new ≡ self.old) }
     {
         self.events.reserve(owed(&self.here) + 1)?;
-        let alloc = *self.events.allocator();
+        let alloc = self.events.alloc();
         step(alloc, &self.settings, &self.places, &mut self.here, t)?;
         self.events.push_reserved(Event {
             worker,

@@ -24,7 +24,7 @@ impl World {
             (λ d. IsDecision self.now.settings (core self.now) d) }
         ensures named { IfOk result (λ d. kind_decided d ≢ e.Refuse why.Memory) }
     {
-        let alloc = *self.events.allocator();
+        let alloc = self.events.alloc();
         decide(alloc, &self.settings, &self.places, &self.here)
     }
 

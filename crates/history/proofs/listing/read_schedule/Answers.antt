@@ -8,7 +8,7 @@ loop-event-smaller c = line_shortens c.loop-event.rest.now c.in-Some.event c.in-
 
 pub loop-event-preserved : goal.loop-event-preserved
 loop-event-preserved c =
-    let more : Listed c.args.bytes.now c.push.new.self c.in-Some.more.now =
+    let more : Listed c.args.bytes.now c.push.new.self.items c.in-Some.more.now =
     subst (λ (es : List Event). Listed c.args.bytes.now es c.in-Some.more.now) (sym c.in_ok-push.ensures.ok)
-    (listed_more c.args.bytes.now c.loop-event.events c.loop-event.rest.now c.in-Some.event c.in-Some.more.now c.loop-event.invariant c.in-Some.ensures) in
+    (listed_more c.args.bytes.now c.loop-event.events.items c.loop-event.rest.now c.in-Some.event c.in-Some.more.now c.loop-event.invariant c.in-Some.ensures) in
     more

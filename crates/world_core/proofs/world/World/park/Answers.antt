@@ -8,7 +8,7 @@ use Rattle.world_core.proofs.world.World.park.Goals as goal
 
 pub invariant_of-self-in_err-park : goal.invariant_of-self-in_err-park
 invariant_of-self-in_err-park c =
-    roomy_keeps c.self.inside _ c.self.invariant refl refl refl refl c.in_ok-reserve.ensures.items c.in_err-park.ensures.err c.in_ok-reserve.ensures.len c.in_ok-reserve.ensures.capacity
+    roomy_keeps c.self.inside _ c.self.invariant refl refl refl refl c.in_ok-reserve.ensures.items c.in_err-park.ensures.err c.in_ok-reserve.ensures.room
 
 pub invariant_of-self-2 : goal.invariant_of-self-2
 invariant_of-self-2 c =
@@ -18,7 +18,7 @@ invariant_of-self-2 c =
       events = c.push_reserved.ensures.items ∙ ap (λ es. es ++ (record { worker = c.args.worker; kind = Park c.args.t }) ∷ []) c.in_ok-reserve.ensures.items;
       makes = c.in_ok-park.ensures.ok c.self.inside.settings c.self.inside.places c.self.invariant.ready
           (may_told (λ k d. r.may_park d c.args.t) c.self.inside c.args.self.now c.self.view_is c.self.invariant c.requires);
-    }) refl (omega (arith, c.in_ok-reserve.ensures.ok, c.push_reserved.ensures.len, c.push_reserved.ensures.capacity, c.owed.ensures))
+    }) refl (omega (arith, c.in_ok-reserve.ensures.ok, c.push_reserved.ensures.room, c.owed.ensures))
 
 pub returns-clause-ok : goal.returns-clause-ok
 returns-clause-ok c =

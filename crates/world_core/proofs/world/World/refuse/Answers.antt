@@ -16,7 +16,7 @@ invariant_of-self c =
       events = c.push_reserved.ensures.items;
       makes = c.refuse.ensures c.self.inside.settings c.self.inside.places (awaits c.self.inside c.args.self.now c.self.view_is c.self.invariant c.requires.may)
           (decided_told (λ k d. IsReason k d c.args.reason) c.self.inside c.args.self.now c.self.view_is c.self.invariant c.requires.decided);
-    }) c.named_in-self-inside.ensures c.push_reserved.ensures.len c.push_reserved.ensures.capacity
+    }) c.named_in-self-inside.ensures c.push_reserved.ensures.room
 
 pub returns : goal.returns
 returns c =

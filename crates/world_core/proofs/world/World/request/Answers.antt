@@ -13,7 +13,7 @@ invariant_of-self-2 c =
       settings = refl;
       events = c.push_reserved.ensures.items ∙ ap (λ es. es ++ (record { worker = c.args.worker; kind = Request }) ∷ []) c.in_ok-reserve.ensures.items;
       makes = c.request.ensures c.self.inside.settings c.self.inside.places c.self.invariant.ready (may_told r.is_due c.self.inside c.args.self.now c.self.view_is c.self.invariant c.requires);
-    }) refl (omega (arith, c.in_ok-reserve.ensures.ok, c.push_reserved.ensures.len, c.push_reserved.ensures.capacity, c.owed.ensures))
+    }) refl (omega (arith, c.in_ok-reserve.ensures.ok, c.push_reserved.ensures.room, c.owed.ensures))
 
 pub returns-clause-ok : goal.returns-clause-ok
 returns-clause-ok c =

@@ -17,7 +17,7 @@ invariant_of-self c =
       events = c.push_reserved.ensures.items;
       makes = c.resume.ensures c.self.inside.settings c.self.inside.places c.self.invariant.ready
           (may_told (λ k d. r.may_resume d c.args.t) c.self.inside c.args.self.now c.self.view_is c.self.invariant c.requires);
-    }) refl c.push_reserved.ensures.len c.push_reserved.ensures.capacity
+    }) refl c.push_reserved.ensures.room
 
 pub returns : goal.returns
 returns c =

@@ -16,7 +16,7 @@ invariant_of-self c =
       events = c.push_reserved.ensures.items;
       makes = c.update.ensures c.self.inside.settings (awaits c.self.inside c.args.self.now c.self.view_is c.self.invariant c.requires.may)
           (decided_told (λ k d. IsUpdate k d c.args.parts c.args.places) c.self.inside c.args.self.now c.self.view_is c.self.invariant c.requires.decided);
-    }) refl c.push_reserved.ensures.len c.push_reserved.ensures.capacity
+    }) refl c.push_reserved.ensures.room
 
 pub returns : goal.returns
 returns c =
