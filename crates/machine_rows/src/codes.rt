@@ -244,22 +244,21 @@ fn put_lowered(text: &mut String, alloc: Global, program: &Lifted) -> Result<(),
     put_code(text, &lower(alloc, &target)?)
 }
 
-/// The code of the program of a source, as a text.
-fn told(alloc: Global, source: &str) -> Result<String, AllocError> {
-    let mut text = String::new(alloc);
+/// Adds the code of the program of a source.
+fn put_source(text: &mut String, alloc: Global, source: &str) -> Result<(), AllocError> {
     match accepted(alloc, source.as_bytes()) {
-        Ok(program) => put_lowered(&mut text, alloc, &program)?,
-        Err(SourceRefused::At(at, _)) => write!(text, "refused at {at}\n")?,
-        Err(SourceRefused::Memory(e)) => return Err(e),
+        Ok(program) => put_lowered(text, alloc, &program),
+        Err(SourceRefused::At(_, _)) => text.push_str("the source is refused\n"),
+        Err(SourceRefused::Memory(e)) => Err(e),
     }
-    Ok(text)
 }
 
 struct Lowering;
 
 impl Trial for Lowering {
     fn put(&self, differing: &mut String, alloc: Global, row: &Row<'_>) -> Result<(), AllocError> {
-        let text = told(alloc, row.text)?;
+        let mut text = String::new(alloc);
+        put_source(&mut text, alloc, row.text)?;
         compare(differing, row.name, row.answer, text.trim_end())
     }
 }
