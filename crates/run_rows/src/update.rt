@@ -61,6 +61,7 @@ fn put_made(
 }
 
 /// A line for each event that is tried, one after the other.
+#[rattlefmt::skip]
 fn put_all(
     text: &mut String,
     alloc: Global,
@@ -70,114 +71,18 @@ fn put_all(
 ) -> Result<(), AllocError>
     requires { IsReady settings.now places.old (core_now settings.now now.old) }
 {
-    put_made(
-        text,
-        alloc,
-        settings,
-        places,
-        now,
-        "step 0",
-        EventKind::Step(0),
-    )?;
-    put_made(
-        text,
-        alloc,
-        settings,
-        places,
-        now,
-        "request",
-        EventKind::Request,
-    )?;
-    put_made(
-        text,
-        alloc,
-        settings,
-        places,
-        now,
-        "step 0",
-        EventKind::Step(0),
-    )?;
-    put_made(
-        text,
-        alloc,
-        settings,
-        places,
-        now,
-        "update",
-        EventKind::Update,
-    )?;
-    put_made(
-        text,
-        alloc,
-        settings,
-        places,
-        now,
-        "park 0",
-        EventKind::Park(0),
-    )?;
-    put_made(
-        text,
-        alloc,
-        settings,
-        places,
-        now,
-        "resume 0",
-        EventKind::Resume(0),
-    )?;
-    put_made(
-        text,
-        alloc,
-        settings,
-        places,
-        now,
-        "update",
-        EventKind::Update,
-    )?;
-    put_made(
-        text,
-        alloc,
-        settings,
-        places,
-        now,
-        "step 0",
-        EventKind::Step(0),
-    )?;
-    put_made(
-        text,
-        alloc,
-        settings,
-        places,
-        now,
-        "resume 0",
-        EventKind::Resume(0),
-    )?;
-    put_made(
-        text,
-        alloc,
-        settings,
-        places,
-        now,
-        "step 0",
-        EventKind::Step(0),
-    )?;
-    put_made(
-        text,
-        alloc,
-        settings,
-        places,
-        now,
-        "step 0",
-        EventKind::Step(0),
-    )?;
-    put_made(
-        text,
-        alloc,
-        settings,
-        places,
-        now,
-        "step 0",
-        EventKind::Step(0),
-    )
+    put_made(text, alloc, settings, places, now, "step 0", EventKind::Step(0))?;
+    put_made(text, alloc, settings, places, now, "request", EventKind::Request)?;
+    put_made(text, alloc, settings, places, now, "step 0", EventKind::Step(0))?;
+    put_made(text, alloc, settings, places, now, "update", EventKind::Update)?;
+    put_made(text, alloc, settings, places, now, "park 0", EventKind::Park(0))?;
+    put_made(text, alloc, settings, places, now, "resume 0", EventKind::Resume(0))?;
+    put_made(text, alloc, settings, places, now, "update", EventKind::Update)?;
+    put_made(text, alloc, settings, places, now, "step 0", EventKind::Step(0))?;
+    put_made(text, alloc, settings, places, now, "resume 0", EventKind::Resume(0))?;
+    put_made(text, alloc, settings, places, now, "step 0", EventKind::Step(0))?;
+    put_made(text, alloc, settings, places, now, "step 0", EventKind::Step(0))?;
+    put_made(text, alloc, settings, places, now, "step 0", EventKind::Step(0))
 }
 
 /// The lines of a run that is updated by the patch before its first Step.
