@@ -15,7 +15,7 @@ function 5 at 11: 0 0 0 0 0
 function 3 at 0: 7
 function 8 at 0: 0 0 0 0 0
 31 activations: 30
-10000 activations, 0 differ, 0 left
+10000 activations, alike true, 0 left
 ";
 
 fn put_top<S: FrameStack>(text: &mut String, stack: &S) -> Result<(), AllocError> {
@@ -58,6 +58,17 @@ fn put_reused<S: FrameStack>(text: &mut String, stack: &mut S) -> Result<(), All
     put_top(text, stack)
 }
 
+/// The innermost activation's last slot; -1 where there is none.
+fn last<S: FrameStack>(stack: &S) -> i32 {
+    if stack.depth() == 0 {
+        return -1;
+    }
+    match stack.slots().last() {
+        Some(&value) => value,
+        None => -1,
+    }
+}
+
 /// An activation that doesn't fit behind 31 of 132 words, and what lies below it.
 fn put_edge<S: FrameStack>(text: &mut String, stack: &mut S) -> Result<(), AllocError> {
     for number in 0..31 {
@@ -68,7 +79,7 @@ fn put_edge<S: FrameStack>(text: &mut String, stack: &mut S) -> Result<(), Alloc
     put_top(text, stack)?;
     stack.set_slot(4, 1);
     stack.pop_frame();
-    let (depth, last) = (stack.depth(), stack.slot(127));
+    let (depth, last) = (stack.depth(), last(stack));
     write!(text, "{depth} activations: {last}\n")
 }
 
@@ -76,23 +87,20 @@ fn put_edge<S: FrameStack>(text: &mut String, stack: &mut S) -> Result<(), Alloc
 fn put_deep<S: FrameStack>(text: &mut String, stack: &mut S) -> Result<(), AllocError> {
     for number in 0..10000 {
         stack.push_frame(number, 128)?;
-        stack.set_slot(0, number as i32);
+        stack.set_slot(127, number as i32);
     }
     let depth = stack.depth();
-    let mut differing = 0;
+    let mut alike = true;
     for number in (0..10000).rev() {
         if stack.depth() > 0 {
-            if stack.slots()[0] != number {
-                differing += 1;
+            if last(stack) != number {
+                alike = false;
             }
             stack.pop_frame();
         }
     }
     let left = stack.depth();
-    write!(
-        text,
-        "{depth} activations, {differing} differ, {left} left\n"
-    )
+    write!(text, "{depth} activations, alike {alike}, {left} left\n")
 }
 
 fn differing_stacks(alloc: Global) -> Result<String, AllocError> {
