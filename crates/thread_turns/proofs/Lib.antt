@@ -1,0 +1,11 @@
+pub mod TextLemmas
+pub mod OperandLemmas
+pub mod CallLemmas
+pub mod MidLemmas
+pub mod PlainLemmas
+pub mod WayLemmas
+pub mod ArrivesSoon
+pub mod EndRowLemmas
+pub mod RowLemmas
+pub mod ChangeLemmas
+pub mod PerformLemmas
