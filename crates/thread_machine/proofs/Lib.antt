@@ -5,3 +5,4 @@ pub mod Rebuilding
 pub mod RebuildLemmas
 pub mod StartLemmas
 pub mod PlaceLemmas
+pub mod TurnLemmas

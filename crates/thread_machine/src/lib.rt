@@ -13,6 +13,7 @@ mod rebuild;
 mod stack;
 mod start;
 mod thread;
+mod turns;
 mod unwind;
 
 pub use laws::an_update_place_has_a_flag;

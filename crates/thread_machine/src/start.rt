@@ -63,7 +63,6 @@ impl<S: FrameStack> Thread<S> {
             returned: 0,
             saved: Row::from_vec(Vec::new(alloc)),
             count: 0,
-            words: Vec::new(alloc),
         })
     }
 }

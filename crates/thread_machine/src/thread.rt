@@ -27,8 +27,6 @@ pub struct Thread<S: FrameStack> {
     pub(crate) saved: Row<Frame>,
     /// How many instructions it ran.
     pub(crate) count: u64,
-    /// Where operands stand while a turn is made.
-    pub(crate) words: Vec<i32>,
 }
 
 impl<S: FrameStack> Drop for Thread<S> {
@@ -39,7 +37,6 @@ impl<S: FrameStack> Drop for Thread<S> {
             returned: _,
             saved: _,
             count: _,
-            words: _,
         } = self;
     }
 }
