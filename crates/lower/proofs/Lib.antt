@@ -1,5 +1,5 @@
 pub mod SizeLemmas
-pub mod ExtentLemmas
+pub mod BlockLemmas
 pub mod StatementLemmas
 pub mod PlaceLemmas
 pub mod CallLemmas

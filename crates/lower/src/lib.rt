@@ -5,9 +5,9 @@
 //! follow from how many instructions each part has.
 #![tactic(auto)]
 
+mod blocks;
 mod calls;
 mod expressions;
-mod extent;
 mod marks;
 mod program;
 mod simple;

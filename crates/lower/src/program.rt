@@ -8,9 +8,9 @@ ghost use Rattle.target_code.specs.Code as spec;
 ghost use Rattle.target_code.specs.declared.instr.Instr.TheVariants as instr;
 ghost use Rattle.lower.specs.Texts.{number};
 
+use crate::blocks::block_size;
 use crate::calls::put_calls;
 use crate::expressions::put;
-use crate::extent::extent_of_block;
 use crate::marks::{mark, mark_block};
 use crate::size::MANY;
 use crate::statements::put_block;
@@ -30,7 +30,7 @@ fn last_position(block: &[LStmt]) -> Result<u32, AllocError>
     ensures value { IfOk result (λ last. last ≡ 3 + spec.block_size block.now) }
     ensures room { IfOk result (λ last. last ≤ 4294967290) }
 {
-    let size = extent_of_block(block).code;
+    let size = block_size(block);
     if size < MANY - 8 {
         Ok((size + 3) as u32)
     } else {
@@ -75,11 +75,10 @@ fn own_code(
         leave: last,
         again: last,
     };
-    let finish = 1 + extent_of_block(block).places;
     let mut body = Vec::new(alloc);
     put_entry(&mut body)?;
-    put_block(numbers, outside, 3, 1, block, &mut body)?;
-    put_return(finish, &mut body)?;
+    let finish = put_block(numbers, outside, 3, 1, block, &mut body)?;
+    put_return(finish.place, &mut body)?;
     Ok(body)
 }
 
@@ -155,8 +154,8 @@ fn lower_function(
 }
 
 /// The code of a program with its numbered places. It takes time in proportion to the program's
-/// size: each statement, and each right side of `&&` and `||`, is looked at once more for each
-/// level of nesting, of which sources have at most 100.
+/// size and, since jumps go past what isn't put yet, looks at a statement or a right side of `&&`
+/// or `||` once more for each level of nesting around it, of which sources have at most 100.
 ///
 /// # Errors
 ///

@@ -1,24 +1,32 @@
 //! The instructions of statements.
 
-ghost use Rattle.std.specs.Prelude.{◌≡◌, ◌≤◌, ◌+◌, ◌++◌, ◌∷◌, [], OnOk};
+ghost use Rattle.std.specs.Prelude.{◌≡◌, ◌≤◌, ◌+◌, ◌++◌, ◌∷◌, [], IfOk, OnOk};
 ghost use Rattle.c_tree.specs.Layout.{count, size_of};
 ghost use Rattle.c_tree.specs.declared.lifted.LStmt.TheVariants as stmt;
+ghost use Rattle.c_tree.specs.declared.place.Act.TheVariants.{Do};
 ghost use Rattle.target_code.specs.Code as spec;
 ghost use Rattle.target_code.specs.Operands.{size};
 ghost use Rattle.target_code.specs.declared.instr.Instr.TheVariants as instr;
 ghost use Rattle.lower.specs.Texts.{number};
 
+use crate::blocks::{block_size, over};
 use crate::expressions::put;
-use crate::extent::{extent_of_block, extent_of_statement, over};
 use crate::simple::{put_simple, put_test};
-use crate::size::expr_size;
+use crate::size::{do_size, expr_size};
 use crate::texts::Numbers;
 use c_tree::{Exits, LExpr, LStmt};
 use std::alloc::AllocError;
 use target_code::Instr;
 
+/// Where code goes on: a position, and the number of the next place.
+#[derive(Clone, Copy)]
+pub struct Spot {
+    pub at: u32,
+    pub place: u32,
+}
+
 /// Appends the jump past an else branch, where there is one.
-#[tactic(auto, using(crate::proofs::ExtentLemmas::jump_rules))]
+#[tactic(auto, using(crate::proofs::BlockLemmas::jump_rules))]
 fn put_jump_over(no: &[LStmt], to: u32, out: &mut Vec<Instr>) -> Result<(), AllocError>
     ensures { OnOk result (out.new.items ≡ out.old.items ++ spec.jump_over_block no.now to) }
 {
@@ -28,7 +36,7 @@ fn put_jump_over(no: &[LStmt], to: u32, out: &mut Vec<Instr>) -> Result<(), Allo
     put(Instr::Jump(to), out)
 }
 
-/// Appends an `if` at a position, whose test is place `n`.
+/// Appends an `if` at a position, whose test is place `n`. Gives where it goes on behind it.
 #[cycle(putting)]
 fn put_if(
     numbers: &Numbers<'_>,
@@ -39,29 +47,30 @@ fn put_if(
     yes: &[LStmt],
     no: &[LStmt],
     out: &mut Vec<Instr>,
-) -> Result<(), AllocError>
+) -> Result<Spot, AllocError>
     requires places { n + 1 + size_of yes.now + size_of no.now ≤ 10000 }
     requires positions { at + (size test.now + (2 + (spec.block_size yes.now
         + (spec.over_block no.now + spec.block_size no.now)))) ≤ 4294967295 }
-    ensures { OnOk result (out.new.items ≡ out.old.items
+    ensures code { OnOk result (out.new.items ≡ out.old.items
         ++ spec.stmt_code (number numbers.now) exits at n (stmt.If test.now yes.now no.now)) }
+    ensures position { IfOk result (λ behind. behind.at ≡ at + (size test.now
+        + (2 + (spec.block_size yes.now + (spec.over_block no.now + spec.block_size no.now))))) }
+    ensures place { IfOk result (λ behind. behind.place
+        ≡ n + 1 + size_of yes.now + size_of no.now) }
 {
-    let first = extent_of_block(yes);
-    let second = extent_of_block(no);
     let yes_at = at + expr_size(test) as u32 + 2;
-    let no_at = yes_at + first.code as u32 + over(no);
-    let end = no_at + second.code as u32;
-    let other = n + 1 + first.places;
+    let no_at = yes_at + block_size(yes) as u32 + over(no);
+    let end = no_at + block_size(no) as u32;
     put_test(at, n, test, out)?;
     put(Instr::Jz(no_at), out)?;
-    put_block(numbers, exits, yes_at, n + 1, yes, out)?;
+    let first = put_block(numbers, exits, yes_at, n + 1, yes, out)?;
     put_jump_over(no, end, out)?;
-    put_block(numbers, exits, no_at, other, no, out)?;
-    Ok(())
+    let behind = put_block(numbers, exits, no_at, first.place, no, out)?;
+    Ok(behind)
 }
 
 /// Appends a loop at a position, whose first place is `n`: its calls, its test, its body, its
-/// step, its end.
+/// step, its end. Gives where it goes on behind it.
 #[cycle(putting)]
 fn put_loop(
     numbers: &Numbers<'_>,
@@ -73,37 +82,37 @@ fn put_loop(
     body: &[LStmt],
     step: &[LStmt],
     out: &mut Vec<Instr>,
-) -> Result<(), AllocError>
+) -> Result<Spot, AllocError>
     requires places { n + size_of calls.now + 1 + size_of body.now + size_of step.now + 1
         ≤ 10000 }
     requires positions { at + (spec.block_size calls.now + (size test.now
         + (2 + (spec.block_size body.now + (spec.block_size step.now + 3))))) ≤ 4294967295 }
-    ensures { OnOk result (out.new.items ≡ out.old.items
+    ensures code { OnOk result (out.new.items ≡ out.old.items
         ++ spec.stmt_code (number numbers.now) exits at n
         (stmt.Loop calls.now test.now body.now step.now)) }
+    ensures position { IfOk result (λ behind. behind.at
+        ≡ at + (spec.block_size calls.now + (size test.now
+        + (2 + (spec.block_size body.now + (spec.block_size step.now + 3)))))) }
+    ensures place { IfOk result (λ behind. behind.place
+        ≡ n + size_of calls.now + 1 + size_of body.now + size_of step.now + 1) }
 {
-    let first = extent_of_block(calls);
-    let second = extent_of_block(body);
-    let third = extent_of_block(step);
-    let test_at = at + first.code as u32;
-    let body_at = test_at + expr_size(test) as u32 + 2;
-    let step_at = body_at + second.code as u32;
-    let end_at = step_at + third.code as u32;
-    let leave = end_at + 3;
+    let tested = put_block(numbers, exits, at, n, calls, out)?;
+    let body_at = tested.at + expr_size(test) as u32 + 2;
+    let step_at = body_at + block_size(body) as u32;
+    let end_at = step_at + block_size(step) as u32;
     let within = Exits {
-        leave,
+        leave: end_at + 3,
         again: step_at,
     };
-    let test_place = n + first.places;
-    let step_place = test_place + 1 + second.places;
-    let end = step_place + third.places;
-    put_block(numbers, exits, at, n, calls, out)?;
-    put_test(test_at, test_place, test, out)?;
-    put(Instr::Jz(leave), out)?;
-    put_block(numbers, within, body_at, test_place + 1, body, out)?;
-    put_block(numbers, exits, step_at, step_place, step, out)?;
-    put_back(end, at, out)?;
-    Ok(())
+    put_test(tested.at, tested.place, test, out)?;
+    put(Instr::Jz(end_at + 3), out)?;
+    let stepped = put_block(numbers, within, body_at, tested.place + 1, body, out)?;
+    let ended = put_block(numbers, exits, step_at, stepped.place, step, out)?;
+    put_back(ended.place, at, out)?;
+    Ok(Spot {
+        at: end_at + 3,
+        place: ended.place + 1,
+    })
 }
 
 /// Appends a loop's end, which is place `n`, and the jump back.
@@ -114,9 +123,45 @@ fn put_back(n: u32, to: u32, out: &mut Vec<Instr>) -> Result<(), AllocError>
     out.extend_from_slice(&[Instr::Mark(n), Instr::Flag(n), Instr::Jump(to)])
 }
 
-/// Appends a statement at a position, whose first place is `n`.
+/// Appends a statement that is place `n`, at a position. Gives where it goes on behind it.
+fn put_one(
+    numbers: &Numbers<'_>,
+    at: u32,
+    n: u32,
+    s: &LStmt,
+    out: &mut Vec<Instr>,
+) -> Result<Spot, AllocError>
+    requires places { n + 1 ≤ 10000 }
+    requires positions { at + spec.act_size (Do s.now) ≤ 4294967295 }
+    ensures code { OnOk result (out.new.items ≡ out.old.items
+        ++ spec.act_code (number numbers.now) at n (Do s.now)) }
+    ensures position { IfOk result (λ behind. behind.at ≡ at + spec.act_size (Do s.now)) }
+    ensures place { IfOk result (λ behind. behind.place ≡ n + 1) }
+{
+    put_simple(numbers, at, n, s, out)?;
+    Ok(Spot {
+        at: at + 1 + do_size(s) as u32,
+        place: n + 1,
+    })
+}
+
+/// Appends the jump of a `break` or a `continue` at a position. Gives where it goes on behind it.
+fn put_exit(at: u32, n: u32, to: u32, out: &mut Vec<Instr>) -> Result<Spot, AllocError>
+    requires positions { at + 1 ≤ 4294967295 }
+    ensures code { OnOk result (out.new.items ≡ out.old.items ++ instr.Jump to ∷ []) }
+    ensures position { IfOk result (λ behind. behind.at ≡ at + 1) }
+    ensures place { IfOk result (λ behind. behind.place ≡ n) }
+{
+    put(Instr::Jump(to), out)?;
+    Ok(Spot {
+        at: at + 1,
+        place: n,
+    })
+}
+
+/// Appends a statement at a position, whose first place is `n`. Gives where it goes on behind it.
 #[cycle(putting)]
-#[tactic(auto, using(crate::proofs::ExtentLemmas::code_rules))]
+#[tactic(auto, using(crate::proofs::BlockLemmas::code_rules))]
 fn put_statement(
     numbers: &Numbers<'_>,
     exits: Exits,
@@ -124,11 +169,13 @@ fn put_statement(
     n: u32,
     s: &LStmt,
     out: &mut Vec<Instr>,
-) -> Result<(), AllocError>
+) -> Result<Spot, AllocError>
     requires places { n + count s.now ≤ 10000 }
     requires positions { at + spec.stmt_size s.now ≤ 4294967295 }
-    ensures { OnOk result (out.new.items ≡ out.old.items
+    ensures code { OnOk result (out.new.items ≡ out.old.items
         ++ spec.stmt_code (number numbers.now) exits at n s.now) }
+    ensures position { IfOk result (λ behind. behind.at ≡ at + spec.stmt_size s.now) }
+    ensures place { IfOk result (λ behind. behind.place ≡ n + count s.now) }
 {
     match s {
         LStmt::If(test, yes, no) => {
@@ -139,23 +186,23 @@ fn put_statement(
             let (calls, body, step) = (calls.as_slice(), body.as_slice(), step.as_slice());
             put_loop(numbers, exits, at, n, calls, test, body, step, out)
         }
-        LStmt::Break => put(Instr::Jump(exits.leave), out),
-        LStmt::Continue => put(Instr::Jump(exits.again), out),
-        LStmt::Assign(_, _) => put_simple(numbers, at, n, s, out),
-        LStmt::New(_, _) => put_simple(numbers, at, n, s, out),
-        LStmt::Getc(_) => put_simple(numbers, at, n, s, out),
-        LStmt::Print(_, _) => put_simple(numbers, at, n, s, out),
-        LStmt::Free(_) => put_simple(numbers, at, n, s, out),
-        LStmt::Call(_, _, _) => put_simple(numbers, at, n, s, out),
-        LStmt::Spawn(_, _, _) => put_simple(numbers, at, n, s, out),
-        LStmt::Join(_) => put_simple(numbers, at, n, s, out),
-        LStmt::Lock(_) => put_simple(numbers, at, n, s, out),
-        LStmt::Unlock(_) => put_simple(numbers, at, n, s, out),
-        LStmt::Return(_) => put_simple(numbers, at, n, s, out),
+        LStmt::Break => put_exit(at, n, exits.leave, out),
+        LStmt::Continue => put_exit(at, n, exits.again, out),
+        LStmt::Assign(_, _) => put_one(numbers, at, n, s, out),
+        LStmt::New(_, _) => put_one(numbers, at, n, s, out),
+        LStmt::Getc(_) => put_one(numbers, at, n, s, out),
+        LStmt::Print(_, _) => put_one(numbers, at, n, s, out),
+        LStmt::Free(_) => put_one(numbers, at, n, s, out),
+        LStmt::Call(_, _, _) => put_one(numbers, at, n, s, out),
+        LStmt::Spawn(_, _, _) => put_one(numbers, at, n, s, out),
+        LStmt::Join(_) => put_one(numbers, at, n, s, out),
+        LStmt::Lock(_) => put_one(numbers, at, n, s, out),
+        LStmt::Unlock(_) => put_one(numbers, at, n, s, out),
+        LStmt::Return(_) => put_one(numbers, at, n, s, out),
     }
 }
 
-/// Appends a block at a position, whose first place is `n`.
+/// Appends a block at a position, whose first place is `n`. Gives where it goes on behind it.
 #[cycle(putting)]
 pub fn put_block(
     numbers: &Numbers<'_>,
@@ -164,20 +211,17 @@ pub fn put_block(
     n: u32,
     block: &[LStmt],
     out: &mut Vec<Instr>,
-) -> Result<(), AllocError>
+) -> Result<Spot, AllocError>
     requires places { n + size_of block.now ≤ 10000 }
     requires positions { at + spec.block_size block.now ≤ 4294967295 }
-    ensures { OnOk result (out.new.items ≡ out.old.items
+    ensures code { OnOk result (out.new.items ≡ out.old.items
         ++ spec.block_code (number numbers.now) exits at n block.now) }
+    ensures position { IfOk result (λ behind. behind.at ≡ at + spec.block_size block.now) }
+    ensures place { IfOk result (λ behind. behind.place ≡ n + size_of block.now) }
 {
-    let mut from = at;
-    let mut place = n;
+    let mut spot = Spot { at, place: n };
     'block: for i in 0..block.len() {
-        let s = &block[i];
-        let more = extent_of_statement(s);
-        put_statement(numbers, exits, from, place, s, out)?;
-        from += more.code as u32;
-        place += more.places;
+        spot = put_statement(numbers, exits, spot.at, spot.place, &block[i], out)?;
     }
-    Ok(())
+    Ok(spot)
 }

@@ -19,6 +19,6 @@ decreases-put_block l = 4 * size_of l.block.now + 2
 -- what is put so far, and where the rest begins
 abbrev pub invariant-put_block-block : goal.invariant-put_block-block
 invariant-put_block-block l =
-    (l.out.items ++ block_code (number l.numbers) l.exits l.from l.place (drop l.i l.block) ≡ l.initial.out.items ++ block_code (number l.numbers) l.exits l.at l.n l.block)
-    × (l.from + block_size (drop l.i l.block) ≡ l.at + block_size l.block)
-    × (l.place + size_of (drop l.i l.block) ≡ l.n + size_of l.block)
+    (l.out.items ++ block_code (number l.numbers) l.exits l.spot.at l.spot.place (drop l.i l.block) ≡ l.initial.out.items ++ block_code (number l.numbers) l.exits l.at l.n l.block)
+    × (l.spot.at + block_size (drop l.i l.block) ≡ l.at + block_size l.block)
+    × (l.spot.place + size_of (drop l.i l.block) ≡ l.n + size_of l.block)

@@ -13,7 +13,7 @@ use Rattle.target_code.proofs.MarkLemmas.{mark_rules as marks_of_form}
 use Rattle.target_code.proofs.SizeLemmas.{stmt_size_rules, block_size-nil, block_size-cons, over_block-nil, over_block-cons}
 
 -- how many instructions and places each form of statement has
-pub ruleset extent_rules = (stmt_size_rules, count_rules)
+pub ruleset size_rules = (stmt_size_rules, count_rules)
 
 -- and with them its code
 pub ruleset code_rules = (stmt_code_rules, stmt_size_rules, count_rules)
